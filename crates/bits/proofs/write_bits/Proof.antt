@@ -1,0 +1,129 @@
+-- `bits::write_bits` meets its contract. The invariant: the bits done are spliced in. Assumes nothing.
+use mathlib.Core.Path.{_≡_, refl, sym, ap, _∙_, subst}
+use Prim.Native.Nat.{ℕ, _+_, _-_, _/_, _^_, _≤_, _<_}
+use native.Mathlib.Nat.{mod-lt}
+use native.Mathlib.Omega.{arith}
+use lib.ListN.{length, length-set}
+use lib.Pow.{pow-pos}
+use borrow.Author.Needs.{needs}
+use borrow.Author.Count.{falls}
+use Rattle.bits.specs.Bits.{lowBits, bitsOf, splice}
+use Rattle.bits.proofs.Splices.{splice-nil}
+use Rattle.bits.proofs.Steps.{Turn, turn, at-end, doneAt, stepsOf}
+use Rattle.bits.proofs.WriteStep.{write-more}
+use Rattle.bits.proofs.write_bits.Statement.{statement}
+use Rattle.bits.proofs.write_bits.Tie as tie
+
+abbrev Inv-loop : tie.InvT-loop
+Inv-loop out₀ w v at octet skip steps done₀ j₀ out done j =
+    (j ≤ stepsOf at w) × (done ≡ doneAt at w j) × (length out ≡ length out₀) × (bitsOf out ≡ splice (bitsOf out₀) at (lowBits done v))
+
+abbrev μ-loop : tie.MeasureT-loop
+μ-loop out₀ w v at octet skip steps done₀ j₀ out done j = stepsOf at w - j
+
+add-steps : tie.Need-add-steps Inv-loop μ-loop
+add-steps c = search needs
+
+add-steps-2 : tie.Need-add-steps-2 Inv-loop μ-loop
+add-steps-2 c = search needs
+
+loop-holds : tie.Need-loop-holds Inv-loop μ-loop
+unfolding lowBits
+loop-holds c = (omega arith, omega arith, refl, sym (splice-nil (bitsOf (c .before .args .out .now)) (c .before .args .at .0)))
+
+add-b : tie.Need-add-b Inv-loop μ-loop
+add-b c = search needs
+
+sub-least : tie.Need-sub-least Inv-loop μ-loop
+sub-least c = search needs
+
+sub-least-2 : tie.Need-sub-least-2 Inv-loop μ-loop
+sub-least-2 c = search needs
+
+least-requires : tie.Need-least-requires Inv-loop μ-loop
+least-requires c κs = search needs
+
+fragment-requires : tie.Need-fragment-requires Inv-loop μ-loop
+fragment-requires c κs = search needs
+
+add-o : tie.Need-add-o Inv-loop μ-loop
+add-o c = search needs
+
+slice-read-patched : tie.Need-slice-read-patched Inv-loop μ-loop
+slice-read-patched c = search needs
+
+-- the numbers of a turn
+the-turn : (c : tie.After-least Inv-loop μ-loop) → Turn (c .before .before .before .before .args .at .0) (c .before .before .before .before .args .w) (c .before .before .loop .j) (c .before .before .loop .done) (c .least .result)
+the-turn c =
+    let l = c .before .before in
+    let a = l .before .before .args in
+    turn (a .at .0) (a .w) (l .loop .j) (l .loop .done) (c .least .result) (c .before .loop-test .taken) (l .loop .inv .1) (c .least .ensures)
+
+index : (c : tie.After-least Inv-loop μ-loop) → c .before .before .before .before .args .at .0 / 8 + c .before .before .loop .j < length (c .before .before .loop .out)
+index c = omega arith
+
+patched-requires : tie.Need-patched-requires Inv-loop μ-loop
+patched-requires c κs =
+    let n = c .before .before .least .result in
+    (the-turn (c .before .before) .within, subst (λ (k : ℕ). k < 2 ^ n) (sym (c .before .fragment .ensures)) (mod-lt _ (pow-pos n)))
+
+slice-write-out : tie.Need-slice-write-out Inv-loop μ-loop
+slice-write-out c = search needs
+
+add-done : tie.Need-add-done Inv-loop μ-loop
+add-done c = search needs
+
+add-j : tie.Need-add-j Inv-loop μ-loop
+add-j c = search needs
+
+loop-less : tie.Need-loop-less Inv-loop μ-loop
+loop-less c =
+    let l = c .before .before .before .before .before in
+    let a = l .before .before .args in
+    falls (stepsOf (a .at .0) (a .w)) (l .loop .j) (c .before .before .before .before .loop-test .taken)
+
+loop-again : tie.Need-loop-again Inv-loop μ-loop
+loop-again c =
+    let t = c .before .before .before in
+    let l = t .before .before in
+    let a = l .before .before .args in (
+      search needs,
+      the-turn t .next,
+      length-set (l .loop .out) (a .at .0 / 8 + l .loop .j) (c .patched .result) ∙ l .loop .inv .2,
+      write-more (a .out .now) (l .loop .out) (a .at .0) (a .w) (a .v) (l .loop .j) (l .loop .done) (t .least .result) (c .before .before .fragment .result) (c .patched .result)
+          (l .before .before .pre .0) (index t) (the-turn t) (l .loop .inv .3) (c .before .before .fragment .ensures) (c .patched .ensures),
+    )
+
+same-length : tie.Need-same-length Inv-loop μ-loop
+same-length c = search needs
+
+returns : tie.Need-returns Inv-loop μ-loop
+returns c =
+    let l = c .before in
+    let a = l .before .before .args in
+    l .loop .inv .3 ∙ ap (λ (k : ℕ). splice (bitsOf (a .out .now)) (a .at .0) (lowBits k (a .v))) (at-end (a .at .0) (a .w) (l .loop .j) (l .loop .done) (l .loop .inv .0) (c .loop-test .left) (l .loop .inv .1))
+
+pub write-bits-spec : {M : Type 1} → statement M
+write-bits-spec =
+    tie.close
+    (tie.spec
+    Inv-loop
+    μ-loop
+    add-steps
+    add-steps-2
+    loop-holds
+    add-b
+    sub-least
+    sub-least-2
+    least-requires
+    fragment-requires
+    add-o
+    slice-read-patched
+    patched-requires
+    slice-write-out
+    add-done
+    add-j
+    loop-less
+    loop-again
+    same-length
+    returns)

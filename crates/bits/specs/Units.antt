@@ -1,0 +1,10 @@
+-- Bit places and octet sizes: the conversion between them, and the longest datagram.
+use Prim.Native.Nat.{ℕ, _+_, _/_}
+
+-- the whole octets that hold the bits before a place
+abbrev pub wholeOctets : ℕ → ℕ
+wholeOctets end = (end + 7) / 8
+
+-- no datagram has more octets (document 01's refusal 12)
+abbrev pub datagramLimit : ℕ
+datagramLimit = 65507
