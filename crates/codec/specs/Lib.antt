@@ -1,0 +1,6 @@
+pub mod Answer
+pub mod Codec
+pub mod Characters
+pub mod Lists
+pub mod Refusals
+pub mod Writes
