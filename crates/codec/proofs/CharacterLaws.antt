@@ -39,13 +39,14 @@ characters-written (suc n) bs rest p (c ∷ cs) g e =
     let h : c ≤ 126 = leb-true c 126 (and-left (leb c 126) (legalCharacters n cs) g) in
     let k : drop p bs ≡ lowBits 7 c ++ (writeCharacters n cs ++ rest) = e ∙ append-assoc (lowBits 7 c) (writeCharacters n cs) rest in
     let m : drop (p + 7) bs ≡ writeCharacters n cs ++ rest = subst (λ (j : ℕ). drop (p + j) bs ≡ writeCharacters n cs ++ rest) (length-lowBits 7 c) (behind bs (lowBits 7 c) (writeCharacters n cs ++ rest) p k) in
-    rw
-    (character-written bs (writeCharacters n cs ++ rest) p c (omega arith) k
-    , ne-eqb c 127 (omega arith)
-    , characters-written n bs rest (p + 7) cs (and-right (leb c 126) (legalCharacters n cs) g) m
-    , length-append
-    , length-lowBits 7 c
-    , add-assoc)
+    rw (
+      character-written bs (writeCharacters n cs ++ rest) p c (omega arith) k,
+      ne-eqb c 127 (omega arith),
+      characters-written n bs rest (p + 7) cs (and-right (leb c 126) (legalCharacters n cs) g) m,
+      length-append,
+      length-lowBits 7 c,
+      add-assoc,
+    )
 
 module _ (n : ℕ) (bs : List Bool) (p q : ℕ) (cs : List ℕ) where
   accepted-third : (v r : ℕ) → Accepted character bs p r v → v ≤ 126 → (a : Answer (List ℕ)) → ((t : ℕ) (ds : List ℕ) → a ≡ got ds t → Accepted (characters n) bs r t ds) → next a (λ ds t. got (v ∷ ds) t) ≡ got cs q → Accepted (characters (suc n)) bs p q cs
@@ -56,12 +57,12 @@ module _ (n : ℕ) (bs : List Bool) (p q : ℕ) (cs : List ℕ) where
       let eq : t ≡ q = cc in
       let i = ih t ds refl in
       let s : Accepted (characters (suc n)) bs p t (v ∷ ds) =
-              record
-              { legal = rw (le-leb v 126 h) (i .legal)
-              ; clean = refl
-              ; same = k .same ∙ rw (i .same, append-assoc)
-              ; ends = rw length-append (omega (arith, k .ends, i .ends))
-              }
+      record {
+        legal = rw (le-leb v 126 h) (i .legal);
+        clean = refl;
+        same = k .same ∙ rw (i .same, append-assoc);
+        ends = rw length-append (omega (arith, k .ends, i .ends));
+      }
       in subst₂ (λ z u. Accepted (characters (suc n)) bs p u z) ec eq s
 
   accepted-second : (v r : ℕ) → Accepted character bs p r v → v ≤ 127 → (b : Bool) → eqb v 127 ≡ b → ((t : ℕ) (ds : List ℕ) → readCharacters n bs r ≡ got ds t → Accepted (characters n) bs r t ds) → pick b (got [] r) (next (readCharacters n bs r) (λ ds t. got (v ∷ ds) t)) ≡ got cs q → Accepted (characters (suc n)) bs p q cs
@@ -97,11 +98,11 @@ characters-sized (suc n) (c ∷ cs) = rw length-append (omega (arith, length-low
 pub characters-lawful : (n : ℕ) → Lawful (characters n)
 unfolding characters
 characters-lawful n =
-    record
-    { written = λ bs rest p cs l e. characters-written n bs rest p cs (passed (legalCharacters n cs) 4 (lit< tt) l) e
-    ; accepted = characters-accepted n
-    ; judged = λ cs. refl
-    ; sized = characters-sized n
+    record {
+      written = λ bs rest p cs l e. characters-written n bs rest p cs (passed (legalCharacters n cs) 4 (lit< tt) l) e;
+      accepted = characters-accepted n;
+      judged = λ cs. refl;
+      sized = characters-sized n;
     }
 
 -- a text's characters: one at least

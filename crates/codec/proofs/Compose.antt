@@ -146,10 +146,10 @@ module _ {A B : Type 0} (c : Codec A) (d : A → Codec B) where
   then-writes xy s t u p q r e f =
       let a = c .write (xy .0) in
       let b = d (xy .0) .write (xy .1) in
-      record
-      { bits = f .bits ∙ ap₂ (λ (z : List Bool) (n : ℕ). splice z n b) (e .bits) (e .ends) ∙ splice-splice (bitsOf s) p a b
-      ; ends = rw length-append (omega (arith, e .ends, f .ends))
-      ; next = omega (arith, e .next, f .next)
+      record {
+        bits = f .bits ∙ ap₂ (λ (z : List Bool) (n : ℕ). splice z n b) (e .bits) (e .ends) ∙ splice-splice (bitsOf s) p a b;
+        ends = rw length-append (omega (arith, e .ends, f .ends));
+        next = omega (arith, e .next, f .next);
       }
 
 module _ {A B : Type 0} (to : A → B) (from : B → A) (clean : B → B) (fine : B → Bool) (fault : ℕ) (c : Codec A) where

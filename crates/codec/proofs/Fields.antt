@@ -50,22 +50,22 @@ module _ (w lo hi fault : ℕ) (hw : 0 < w) (h : hi < 2 ^ w) (hf : 0 < fault) wh
       let f : length (take w (drop p bs)) ≡ w = length-take-le w (drop p bs) (rw length-drop (omega arith)) in
       let g : lowBits w v ≡ take w (drop p bs) = rw (← ev) (lowBits-value-at w (take w (drop p bs)) f) in
       let s : Accepted (number w lo hi fault) bs p (p + w) v =
-              record
-              { legal = rw eb
-              ; clean = refl
-              ; same = sym (rw (g, ← (drop-drop w p bs)) (take-append-drop w (drop p bs)))
-              ; ends = rw (length-lowBits w v)
-              }
+      record {
+        legal = rw eb;
+        clean = refl;
+        same = sym (rw (g, ← (drop-drop w p bs)) (take-append-drop w (drop p bs)));
+        ends = rw (length-lowBits w v);
+      }
       in subst₂ (λ z u. Accepted (number w lo hi fault) bs p u z) ex eq s
 
   pub number-lawful : Lawful (number w lo hi fault)
   unfolding readNumber number
   number-lawful =
-      record
-      { written = number-written
-      ; accepted = λ bs p q x e. number-accepted bs p q x _ _ _ refl refl refl e
-      ; judged = λ n. refl
-      ; sized = length-lowBits w
+      record {
+        written = number-written;
+        accepted = λ bs p q x e. number-accepted bs p q x _ _ _ refl refl refl e;
+        judged = λ n. refl;
+        sized = length-lowBits w;
       }
 
   -- a number that was read is no larger than the largest that is legal
@@ -84,22 +84,22 @@ flag-accepted (a ∷ l) bs p q b el e =
 pub flag-lawful : Lawful flag
 unfolding flag
 flag-lawful =
-    record
-    { written = λ bs rest p b l e. rw e
-    ; accepted = λ bs p q b e. flag-accepted (drop p bs) bs p q b refl e
-    ; judged = λ b. refl
-    ; sized = λ b. refl
+    record {
+      written = λ bs rest p b l e. rw e;
+      accepted = λ bs p q b e. flag-accepted (drop p bs) bs p q b refl e;
+      judged = λ b. refl;
+      sized = λ b. refl;
     }
 
 pub nothing-lawful : {A : Type 0} (x : A) → Lawful (nothing x)
 unfolding nothing
 nothing-lawful x =
-    record
-    { written = λ bs rest p y l e. ap (got x) (omega arith)
-    ; accepted = λ bs p q y e.
-            let ey : x ≡ y = cc in
-            let eq : p ≡ q = cc in
-            record { legal = refl; clean = ey; same = rw eq; ends = omega arith }
-    ; judged = λ y. refl
-    ; sized = λ y. refl
+    record {
+      written = λ bs rest p y l e. ap (got x) (omega arith);
+      accepted = λ bs p q y e.
+          let ey : x ≡ y = cc in
+          let eq : p ≡ q = cc in
+          record { legal = refl; clean = ey; same = rw eq; ends = omega arith };
+      judged = λ y. refl;
+      sized = λ y. refl;
     }

@@ -6,3 +6,4 @@ pub mod CharacterLaws
 pub mod ListLaws
 pub mod Told
 pub mod Compose
+pub mod Cells

@@ -25,7 +25,7 @@ pub length-map : {A B : Type 0} (f : A → B) (l : List A) → length (map f l) 
 length-map f [] = refl
 length-map f (x ∷ l) = ap suc (length-map f l)
 
-length-replicate : {A : Type 0} (n : ℕ) (x : A) → length (replicate n x) ≡ n
+pub length-replicate : {A : Type 0} (n : ℕ) (x : A) → length (replicate n x) ≡ n
 length-replicate zero x = refl
 length-replicate (suc n) x = ap suc (length-replicate n x)
 
@@ -156,8 +156,8 @@ module _ {A : Type 0} (x : A) (room most fault : ℕ) (c : Codec (List A)) (lc :
       viewed-lawful _ _ _ fine fault c lc
       (λ xs l m. take-append-seam xs (replicate (room - length xs) x))
       (λ xs l.
-          let h = short xs l in
-          rw (made-length xs (omega arith), eq-eqb room room refl) (le-leb (length xs) most h))
+      let h = short xs l in
+      rw (made-length xs (omega arith), eq-eqb room room refl) (le-leb (length xs) most h))
       (λ y l. fine-legal (fine y) _ fault hf l .1)
       cells-clean
       (λ y. rw (clean-length (y .0) (y .1)) (cells-judged y (fine y) refl))

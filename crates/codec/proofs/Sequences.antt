@@ -42,12 +42,12 @@ module _ {A B : Type 0} (c : Codec A) (d : A → Codec B) (lc : Lawful c) (ld : 
       let exy : (x, y) ≡ xy = cc in
       let eq : t ≡ q = cc in
       let s : Accepted (c thenBy d) bs p t (x, y) =
-              record
-              { legal = rw (h .legal) (k .legal)
-              ; clean = rw (h .clean, k .clean)
-              ; same = h .same ∙ rw (k .same, append-assoc)
-              ; ends = rw length-append (omega arith)
-              }
+      record {
+        legal = rw (h .legal) (k .legal);
+        clean = rw (h .clean, k .clean);
+        same = h .same ∙ rw (k .same, append-assoc);
+        ends = rw length-append (omega arith);
+      }
       in subst₂ (λ z u. Accepted (c thenBy d) bs p u z) exy eq s
 
   thenBy-first : (bs : List Bool) (p q : ℕ) (xy : A × B) (a : Answer A) → c .read bs p ≡ a → next a (λ x r. next (d x .read bs r) (λ y t. got (x, y) t)) ≡ got xy q → Accepted (c thenBy d) bs p q xy
@@ -61,11 +61,11 @@ module _ {A B : Type 0} (c : Codec A) (d : A → Codec B) (lc : Lawful c) (ld : 
   pub thenBy-lawful : Lawful (c thenBy d)
   unfolding _thenBy_
   thenBy-lawful =
-      record
-      { written = thenBy-written
-      ; accepted = λ bs p q xy e. thenBy-first bs p q xy (c .read bs p) refl e
-      ; judged = λ xy. thenBy-judged (xy .0) (xy .1)
-      ; sized = λ xy. length-append (c .write (xy .0)) (d (xy .0) .write (xy .1)) ∙ ap₂ _+_ (lc .sized (xy .0)) (ld (xy .0) .sized (xy .1))
+      record {
+        written = thenBy-written;
+        accepted = λ bs p q xy e. thenBy-first bs p q xy (c .read bs p) refl e;
+        judged = λ xy. thenBy-judged (xy .0) (xy .1);
+        sized = λ xy. length-append (c .write (xy .0)) (d (xy .0) .write (xy .1)) ∙ ap₂ _+_ (lc .sized (xy .0)) (ld (xy .0) .sized (xy .1));
       }
 
 pub and-lawful : {A B : Type 0} {c : Codec A} {d : Codec B} → Lawful c → Lawful d → Lawful (c & d)

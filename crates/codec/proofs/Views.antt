@@ -25,25 +25,25 @@ module _ {A B : Type 0} (to : A → B) (from : B → A) (clean : B → B) (fine 
       let eq : r ≡ q = cc in
       let b : from (to x) ≡ x = back x (k .legal) (k .clean) in
       let l : pick (fine (to x)) (c .check (from (to x))) fault ≡ 0 =
-              subst⁻¹ (λ (z : Bool). pick z (c .check (from (to x))) fault ≡ 0) (made x (k .legal)) (subst⁻¹ (λ (z : A). c .check z ≡ 0) b (k .legal))
+      subst⁻¹ (λ (z : Bool). pick z (c .check (from (to x))) fault ≡ 0) (made x (k .legal)) (subst⁻¹ (λ (z : A). c .check z ≡ 0) b (k .legal))
       in
       let s : Accepted (viewed to from clean fine fault c) bs p r (to x) =
-              record
-              { legal = l
-              ; clean = cleaned (to x) l ∙ ap (λ (z : A). to (c .norm z)) b ∙ ap to (k .clean)
-              ; same = subst⁻¹ (λ (z : A). drop p bs ≡ c .write z ++ drop r bs) b (k .same)
-              ; ends = subst⁻¹ (λ (z : A). r ≡ p + length (c .write z)) b (k .ends)
-              }
+      record {
+        legal = l;
+        clean = cleaned (to x) l ∙ ap (λ (z : A). to (c .norm z)) b ∙ ap to (k .clean);
+        same = subst⁻¹ (λ (z : A). drop p bs ≡ c .write z ++ drop r bs) b (k .same);
+        ends = subst⁻¹ (λ (z : A). r ≡ p + length (c .write z)) b (k .ends);
+      }
       in subst₂ (λ z u. Accepted (viewed to from clean fine fault c) bs p u z) ey eq s
 
   pub viewed-lawful : Lawful (viewed to from clean fine fault c)
   unfolding next viewed
   viewed-lawful =
-      record
-      { written = λ bs rest p y l e. rw (lc .written bs rest p (from y) (legal y l) e, cleaned y l)
-      ; accepted = λ bs p q y e. viewed-accepted bs p q y (c .read bs p) refl e
-      ; judged = judged
-      ; sized = λ y. lc .sized (from y)
+      record {
+        written = λ bs rest p y l e. rw (lc .written bs rest p (from y) (legal y l) e, cleaned y l);
+        accepted = λ bs p q y e. viewed-accepted bs p q y (c .read bs p) refl e;
+        judged = judged;
+        sized = λ y. lc .sized (from y);
       }
 
 pub shaped-lawful : {A B : Type 0} (to : A → B) (from : B → A) {c : Codec A} → Lawful c → ((x : A) → from (to x) ≡ x) → Lawful (shaped to from c)
@@ -69,13 +69,13 @@ module _ {A : Type 0} (test : A → Bool) (fault : ℕ) (hf : 0 < fault) (c : Co
   pub tested-lawful : Lawful (tested test fault c)
   unfolding next tested
   tested-lawful =
-      record
-      { written = λ bs rest p x l e.
-              let z = first-zero (c .check x) (pick (test x) 0 fault) l in
-              rw (lc .written bs rest p x (z .0) e, tn x, passed (test x) fault hf (z .1))
-      ; accepted = λ bs p q y e. tested-accepted bs p q y (c .read bs p) refl e
-      ; judged = λ x. rw (lc .judged x, tn x)
-      ; sized = lc .sized
+      record {
+        written = λ bs rest p x l e.
+            let z = first-zero (c .check x) (pick (test x) 0 fault) l in
+            rw (lc .written bs rest p x (z .0) e, tn x, passed (test x) fault hf (z .1));
+        accepted = λ bs p q y e. tested-accepted bs p q y (c .read bs p) refl e;
+        judged = λ x. rw (lc .judged x, tn x);
+        sized = lc .sized;
       }
 
 pub must-lawful : (b : Bool) (fault : ℕ) → 0 < fault → Lawful (must b fault)

@@ -30,10 +30,10 @@ legalCharacters (suc n) (c ∷ cs) = leb c 126 && legalCharacters n cs
 
 unfoldable pub characters : ℕ → Codec (List ℕ)
 characters n =
-    record
-    { read = readCharacters n
-    ; write = writeCharacters n
-    ; check = λ cs. pick (legalCharacters n cs) 0 4
-    ; norm = λ cs. cs
-    ; size = λ cs. 7 * min n (length cs + 1)
+    record {
+      read = readCharacters n;
+      write = writeCharacters n;
+      check = λ cs. pick (legalCharacters n cs) 0 4;
+      norm = λ cs. cs;
+      size = λ cs. 7 * min n (length cs + 1);
     }

@@ -30,12 +30,12 @@ readNumber w lo hi fault bs p =
 
 unfoldable pub number : ℕ → ℕ → ℕ → ℕ → Codec ℕ
 number w lo hi fault =
-    record
-    { read = readNumber w lo hi fault
-    ; write = lowBits w
-    ; check = λ n. pick (within lo hi n) 0 fault
-    ; norm = λ n. n
-    ; size = λ n. w
+    record {
+      read = readNumber w lo hi fault;
+      write = lowBits w;
+      check = λ n. pick (within lo hi n) 0 fault;
+      norm = λ n. n;
+      size = λ n. w;
     }
 
 -- a presence or recurrence bit
@@ -58,12 +58,12 @@ first (suc f) g = suc f
 -- one field, then one that may depend on it
 unfoldable pub _thenBy_ : {A B : Type 0} → Codec A → (A → Codec B) → Codec (A × B)
 _thenBy_ c d =
-    record
-    { read = λ bs p. next (c .read bs p) (λ x q. next (d x .read bs q) (λ y r. got (x, y) r))
-    ; write = λ xy. c .write (xy .0) ++ d (xy .0) .write (xy .1)
-    ; check = λ xy. first (c .check (xy .0)) (d (xy .0) .check (xy .1))
-    ; norm = λ xy. (c .norm (xy .0), d (xy .0) .norm (xy .1))
-    ; size = λ xy. c .size (xy .0) + d (xy .0) .size (xy .1)
+    record {
+      read = λ bs p. next (c .read bs p) (λ x q. next (d x .read bs q) (λ y r. got (x, y) r));
+      write = λ xy. c .write (xy .0) ++ d (xy .0) .write (xy .1);
+      check = λ xy. first (c .check (xy .0)) (d (xy .0) .check (xy .1));
+      norm = λ xy. (c .norm (xy .0), d (xy .0) .norm (xy .1));
+      size = λ xy. c .size (xy .0) + d (xy .0) .size (xy .1);
     }
 
 -- one field, then another
@@ -71,7 +71,6 @@ abbrev pub _&_ : {A B : Type 0} → Codec A → Codec B → Codec (A × B)
 _&_ c d = c thenBy (λ x. d)
 
 infixr 20 _&_ _thenBy_
-
 -- c where it is present, and x with no bits where not
 unfoldable pub present : {A : Type 0} → A → Codec A → Bool → Codec A
 present x c true = c
@@ -85,12 +84,12 @@ optional x c = flag thenBy present x c
 -- 0, `clean` sets the unused cells to 0; `fine` tests what `from` cannot tell, before the rest, and fault is the refusal where it fails.
 unfoldable pub viewed : {A B : Type 0} → (A → B) → (B → A) → (B → B) → (B → Bool) → ℕ → Codec A → Codec B
 viewed to from clean fine fault c =
-    record
-    { read = λ bs p. next (c .read bs p) (λ x q. got (to x) q)
-    ; write = λ y. c .write (from y)
-    ; check = λ y. pick (fine y) (c .check (from y)) fault
-    ; norm = clean
-    ; size = λ y. c .size (from y)
+    record {
+      read = λ bs p. next (c .read bs p) (λ x q. got (to x) q);
+      write = λ y. c .write (from y);
+      check = λ y. pick (fine y) (c .check (from y)) fault;
+      norm = clean;
+      size = λ y. c .size (from y);
     }
 
 -- the same values in another shape
@@ -100,12 +99,12 @@ shaped to from c = viewed to from (λ y. to (c .norm (from y))) (λ y. true) 0 c
 -- the values of c that pass a test; fault is the refusal of another one, at its first bit
 unfoldable pub tested : {A : Type 0} → (A → Bool) → ℕ → Codec A → Codec A
 tested test fault c =
-    record
-    { read = λ bs p. next (c .read bs p) (λ x q. pick (test x) (got x q) (refused fault p))
-    ; write = c .write
-    ; check = λ x. first (c .check x) (pick (test x) 0 fault)
-    ; norm = c .norm
-    ; size = c .size
+    record {
+      read = λ bs p. next (c .read bs p) (λ x q. pick (test x) (got x q) (refused fault p));
+      write = c .write;
+      check = λ x. first (c .check x) (pick (test x) 0 fault);
+      norm = c .norm;
+      size = c .size;
     }
 
 abbrev pub same : Bool → Bool → Bool

@@ -3,7 +3,6 @@
 ghost use mathlib.Core.Path.{_≡_};
 ghost use Rattle.codec.specs.Refusals.{numberStep, flagStep, checkNo};
 ghost use Rattle.codec.specs.Codec.{first};
-
 use bits::BitPlace;
 
 // The kinds of refusal of a header, in the order of document 01's numbers 1 to 12.

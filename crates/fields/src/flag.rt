@@ -9,9 +9,10 @@ ghost use Rattle.codec.specs.Codec.{flag, must, same};
 ghost use Rattle.codec.specs.Lists.{recurs};
 ghost use Rattle.codec.specs.Refusals.{faultNo, flagAnswer, checkNo};
 ghost use Rattle.codec.specs.Writes.{Placed, Room, Writes};
-
 use bits::BitPlace;
-use codec::{Check, Fault, Flag};
+use codec::Check;
+use codec::Fault;
+use codec::Flag;
 
 pub fn read_flag(s: &[u8], at: BitPlace) -> Flag
     requires { ⌜ length (now s) ≤ datagramLimit ⌝ }

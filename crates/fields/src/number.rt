@@ -8,9 +8,10 @@ ghost use Rattle.codec.specs.Codec.{present};
 ghost use Rattle.codec.specs.Refusals.{faultNo, numberAnswer, checkNo};
 ghost use Rattle.codec.specs.Writes.{Placed, Room, Writes};
 ghost use Rattle.fields.specs.Numbers.{numberOf};
-
 use bits::BitPlace;
-use codec::{Check, Fault, Number};
+use codec::Check;
+use codec::Fault;
+use codec::Number;
 
 // What the layout says of a number: its bits, and its least and largest legal value. It is said once
 // and serves reading, writing, the check and the end.

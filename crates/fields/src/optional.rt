@@ -7,11 +7,20 @@ ghost use Rattle.bits.specs.Units.{datagramLimit};
 ghost use Rattle.codec.specs.Refusals.{answer, checkNo};
 ghost use Rattle.codec.specs.Writes.{Placed, Room, Writes};
 ghost use Rattle.fields.specs.Numbers.{optionalNumber};
-
+use crate::flag::end_flag;
+use crate::flag::read_flag;
+use crate::flag::write_flag;
+use crate::number::Range;
+use crate::number::check_number;
+use crate::number::end_number;
+use crate::number::read_number;
+use crate::number::write_number;
 use bits::BitPlace;
-use codec::{Check, Fault, Flag, Number, Step};
-use crate::flag::{end_flag, read_flag, write_flag};
-use crate::number::{Range, check_number, end_number, read_number, write_number};
+use codec::Check;
+use codec::Fault;
+use codec::Flag;
+use codec::Number;
+use codec::Step;
 
 // A number that may be absent; its cell is unused then.
 #[repr(C)]
@@ -25,7 +34,10 @@ pub struct OptionalRead {
     pub number: OptionalNumber,
 }
 
-const ABSENT: OptionalNumber = OptionalNumber { present: false, value: 0 };
+const ABSENT: OptionalNumber = OptionalNumber {
+    present: false,
+    value: 0,
+};
 
 pub fn read_optional(s: &[u8], at: BitPlace, f: Range) -> OptionalRead
     requires { ⌜ (length (now s) ≤ datagramLimit) × (f .width ≤ 24) ⌝ }
@@ -33,16 +45,34 @@ pub fn read_optional(s: &[u8], at: BitPlace, f: Range) -> OptionalRead
 {
     let a = read_flag(s, at);
     let Flag::Got(present, at) = a else {
-        return OptionalRead { step: a.step(), number: ABSENT };
+        return OptionalRead {
+            step: a.step(),
+            number: ABSENT,
+        };
     };
     if present {
         let b = read_number(s, at, f, Fault::Code);
         let Number::Got(value, at) = b else {
-            return OptionalRead { step: b.step(), number: ABSENT };
+            return OptionalRead {
+                step: b.step(),
+                number: ABSENT,
+            };
         };
-        return OptionalRead { step: Step::Next(at), number: OptionalNumber { present: present, value: value } };
+        return OptionalRead {
+            step: Step::Next(at),
+            number: OptionalNumber {
+                present: present,
+                value: value,
+            },
+        };
     }
-    OptionalRead { step: Step::Next(at), number: OptionalNumber { present: present, value: 0 } }
+    OptionalRead {
+        step: Step::Next(at),
+        number: OptionalNumber {
+            present: present,
+            value: 0,
+        },
+    }
 }
 
 pub fn write_optional(out: &mut [u8], at: BitPlace, f: Range, x: OptionalNumber) -> BitPlace

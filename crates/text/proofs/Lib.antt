@@ -1,0 +1,4 @@
+pub mod Lawful
+mod Reading
+mod Writing
+mod Checking

@@ -1,0 +1,149 @@
+// A text of 7-bit characters: read, written, checked before it is written, and followed to the place
+// where its bits end.
+ghost use mathlib.Core.Path.{_≡_};
+ghost use Prim.Native.Nat.{_+_, _≤_};
+ghost use lib.ListN.{length};
+ghost use Rattle.bits.specs.Bits.{bitsOf};
+ghost use Rattle.bits.specs.Units.{datagramLimit};
+ghost use Rattle.codec.specs.Refusals.{answer, checkNo};
+ghost use Rattle.codec.specs.Writes.{Placed, Room, Writes};
+ghost use Rattle.text.specs.Texts.{text, noText};
+use bits::BitPlace;
+use codec::Check;
+use codec::Fault;
+use codec::Number;
+use codec::Step;
+use fields::number::Range;
+use fields::number::read_number;
+use fields::number::write_number;
+
+// The characters of a text and their count. The cells behind them are unused.
+#[repr(C)]
+pub struct Text {
+    pub chars: [u8; 64],
+    pub len: u32,
+}
+
+pub struct TextRead {
+    pub step: Step,
+    pub text: Text,
+}
+
+// A character or the marker that ends a text.
+const CHARACTER: Range = Range {
+    width: 7,
+    least: 0,
+    most: 127,
+};
+
+const MARKER: u32 = 127;
+
+pub fn no_text() -> Text
+    ensures { λ r. ⌜ r ≡ noText ⌝ }
+{
+    Text {
+        chars: [0u8; 64],
+        len: 0,
+    }
+}
+
+// A text of at most `most` characters. The loop yields the count of characters: at the marker, at the
+// maximum, behind which there is no marker, or where a character lacks bits.
+pub fn read_text(s: &[u8], at: BitPlace, most: usize) -> TextRead
+    requires { ⌜ (length (now s) ≤ datagramLimit) × (most ≤ 64) ⌝ }
+    ensures { λ r. ⌜ answer (r .step) (r .text) ≡ text most .read (bitsOf (now (s .entry))) (at .0) ⌝ }
+{
+    let mut chars = [0u8; 64];
+    let mut n: usize = 0;
+    let mut place = at;
+    let mut step = Step::Next(at);
+    let count = loop {
+        if most <= n {
+            break n;
+        }
+        let a = read_number(s, place, CHARACTER, Fault::Code);
+        let Number::Got(v, next) = a else {
+            step = a.step();
+            break n;
+        };
+        place = next;
+        step = Step::Next(next);
+        if v == MARKER {
+            break n;
+        }
+        chars[n] = (v % 128) as u8;
+        n += 1;
+    };
+    let Step::Next(end) = step else {
+        return TextRead {
+            step: step,
+            text: no_text(),
+        };
+    };
+    if count == 0 {
+        return TextRead {
+            step: Step::Refused(Fault::BadText, at),
+            text: no_text(),
+        };
+    }
+    TextRead {
+        step: Step::Next(end),
+        text: Text {
+            chars: chars,
+            len: count as u32,
+        },
+    }
+}
+
+pub fn write_text(out: &mut [u8], at: BitPlace, most: usize, t: Text) -> BitPlace
+    requires { ⌜ Room (now out) (at .0) (text most .size t) × (most ≤ 64) ⌝ }
+    ensures { λ r. ⌜ Writes (text most) t (now (out .entry)) (now (out .exit)) (at .0) (r .0) ⌝ }
+{
+    let chars = t.chars;
+    let len = t.len as usize;
+    let mut i: usize = 0;
+    let mut place = at;
+    while i < most {
+        if len <= i {
+            return write_number(out, place, CHARACTER, MARKER);
+        }
+        let v = chars[i] as u32;
+        place = write_number(out, place, CHARACTER, v);
+        i += 1;
+    }
+    place
+}
+
+pub fn check_text(most: usize, t: Text) -> Check
+    requires { ⌜ most ≤ 64 ⌝ }
+    ensures { λ r. ⌜ checkNo r ≡ text most .check t ⌝ }
+{
+    let chars = t.chars;
+    let len = t.len as usize;
+    if most < len {
+        return Check::Bad(Fault::BadText);
+    }
+    if len == 0 {
+        return Check::Bad(Fault::BadText);
+    }
+    let mut i: usize = 0;
+    while i < len {
+        let v = chars[i];
+        if 126 < v {
+            return Check::Bad(Fault::BadText);
+        }
+        i += 1;
+    }
+    Check::Fine
+}
+
+pub fn end_text(at: BitPlace, most: usize, t: Text) -> BitPlace
+    requires { ⌜ Placed (at .0) (text most .size t) × (most ≤ 64) ⌝ }
+    ensures { λ r. ⌜ r .0 ≡ at .0 + text most .size t ⌝ }
+{
+    let len = t.len as usize;
+    if len < most {
+        return BitPlace(at.0 + 7 * (len + 1));
+    }
+    BitPlace(at.0 + 7 * most)
+}
