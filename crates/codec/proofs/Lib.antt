@@ -7,3 +7,4 @@ pub mod ListLaws
 pub mod Told
 pub mod Compose
 pub mod Cells
+pub mod ListLoops

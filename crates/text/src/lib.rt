@@ -13,9 +13,9 @@ use codec::Check;
 use codec::Fault;
 use codec::Number;
 use codec::Step;
-use fields::number::Range;
-use fields::number::read_number;
-use fields::number::write_number;
+use number::Range;
+use number::read_number;
+use number::write_number;
 
 // The characters of a text and their count. The cells behind them are unused.
 #[repr(C)]
