@@ -88,9 +88,9 @@ pub fn check_must(b: bool, fault: Fault, x: bool) -> Check
     Check::Bad(fault)
 }
 
-pub fn end_flag(at: BitPlace, b: bool) -> BitPlace
+pub fn end_flag(at: BitPlace) -> BitPlace
     requires { ⌜ Placed (at .0) 1 ⌝ }
-    ensures { λ r. ⌜ r .0 ≡ at .0 + flag .size b ⌝ }
+    ensures { λ r. ⌜ r .0 ≡ at .0 + 1 ⌝ }
 {
     BitPlace(at.0 + 1)
 }

@@ -65,9 +65,9 @@ pub fn check_number(f: Range, fault: Fault, x: u32) -> Check
     Check::Fine
 }
 
-pub fn end_number(at: BitPlace, f: Range, v: u32) -> BitPlace
+pub fn end_number(at: BitPlace, f: Range) -> BitPlace
     requires { ⌜ Placed (at .0) (f .width) ⌝ }
-    ensures { λ r. ⌜ r .0 ≡ at .0 + numberOf f 3 .size v ⌝ }
+    ensures { λ r. ⌜ r .0 ≡ at .0 + f .width ⌝ }
 {
     BitPlace(at.0 + f.width)
 }

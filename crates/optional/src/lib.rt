@@ -102,9 +102,9 @@ pub fn end_optional(at: BitPlace, f: Range, x: OptionalNumber) -> BitPlace
     ensures { λ r. ⌜ r .0 ≡ at .0 + optionalNumber f .size x ⌝ }
 {
     let present = x.present;
-    let behind = end_flag(at, present);
+    let behind = end_flag(at);
     if present {
-        return end_number(behind, f, x.value);
+        return end_number(behind, f);
     }
     behind
 }

@@ -54,43 +54,13 @@ computed-lowBits : (x b n f : ℕ) → b + n ≤ 8 → f < 2 ^ n → x < 2 ^ 8 �
 computed-lowBits x b n f h hf hx =
     ap (lowBits 8) (parts-value x b n f h hf hx) ∙ lowBits-value-at 8 (parts x b n f) (parts-length x b n f h)
 
-cast-low : tie.Need-cast-low
-cast-low c = search needs
-
-shl-low : tie.Need-shl-low
-shl-low c = search needs
-
 rem-low : tie.Need-rem-low
 rem-low c = rw (one-shl (c .args .b) (search needs)) (pow-pos (c .args .b))
-
-add-high : tie.Need-add-high
-add-high c = search needs
-
-cast-high : tie.Need-cast-high
-cast-high c = search needs
-
-shr-high : tie.Need-shr-high
-shr-high c = search needs
-
-cast-result : tie.Need-cast-result
-cast-result c = search needs
-
-shl-result : tie.Need-shl-result
-shl-result c = search needs
 
 add-result : tie.Need-add-result
 add-result c =
     let a = c .args in
     omega (arith, computed-lt (a .x) (a .b) (a .n) (a .f) (c .pre .0) (c .pre .1) (c .fits .x .fits))
-
-add-result-2 : tie.Need-add-result-2
-add-result-2 c = search needs
-
-cast-result-2 : tie.Need-cast-result-2
-cast-result-2 c = search needs
-
-shl-result-2 : tie.Need-shl-result-2
-shl-result-2 c = search needs
 
 add-result-3 : tie.Need-add-result-3
 add-result-3 c =
@@ -109,20 +79,4 @@ returns c =
 
 pub patched-spec : {M : Type 1} → statement M
 patched-spec =
-    tie.close
-    (tie.spec
-    cast-low
-    shl-low
-    rem-low
-    add-high
-    cast-high
-    shr-high
-    cast-result
-    shl-result
-    add-result
-    add-result-2
-    cast-result-2
-    shl-result-2
-    add-result-3
-    cast-result-3
-    returns)
+    tie.close (tie.spec (λ c. search needs) (λ c. search needs) rem-low (λ c. search needs) (λ c. search needs) (λ c. search needs) (λ c. search needs) (λ c. search needs) add-result (λ c. search needs) (λ c. search needs) (λ c. search needs) add-result-3 cast-result-3 returns)

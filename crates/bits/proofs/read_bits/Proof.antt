@@ -18,46 +18,13 @@ Inv-loop s w at octet skip steps number₀ done₀ j₀ number done j = (j ≤ s
 abbrev μ-loop : tie.MeasureT-loop
 μ-loop s w at octet skip steps number₀ done₀ j₀ number done j = stepsOf at w - j
 
-add-steps : tie.Need-add-steps Inv-loop μ-loop
-add-steps c = search needs
-
-add-steps-2 : tie.Need-add-steps-2 Inv-loop μ-loop
-add-steps-2 c = search needs
-
 loop-holds : tie.Need-loop-holds Inv-loop μ-loop
 loop-holds c = (omega arith, omega arith, sym (field-none (c .before .args .s .now) (c .before .args .at .0)))
-
-add-b : tie.Need-add-b Inv-loop μ-loop
-add-b c = search needs
-
-sub-least : tie.Need-sub-least Inv-loop μ-loop
-sub-least c = search needs
-
-sub-least-2 : tie.Need-sub-least-2 Inv-loop μ-loop
-sub-least-2 c = search needs
-
-least-requires : tie.Need-least-requires Inv-loop μ-loop
-least-requires c κs = search needs
-
-add-fragment : tie.Need-add-fragment Inv-loop μ-loop
-add-fragment c = search needs
-
-shared-slice-read-fragment : tie.Need-shared-slice-read-fragment Inv-loop μ-loop
-shared-slice-read-fragment c = search needs
 
 cast-fragment : tie.Need-cast-fragment Inv-loop μ-loop
 cast-fragment c =
     let l = c .before .before .before in
     omega (arith, c .shared-slice-known2 .given (l .before .before .args .at .0 / 8 + l .loop .j))
-
-fragment-requires : tie.Need-fragment-requires Inv-loop μ-loop
-fragment-requires c κs = search needs
-
-cast-number : tie.Need-cast-number Inv-loop μ-loop
-cast-number c = search needs
-
-shl-number : tie.Need-shl-number Inv-loop μ-loop
-shl-number c = search needs
 
 the-turn : (c : tie.After-fragment Inv-loop μ-loop) → Turn (c .before .before .before .before .before .before .args .at .0) (c .before .before .before .before .before .before .args .w) (c .before .before .before .before .loop .j) (c .before .before .before .before .loop .done) (c .before .before .least .result)
 the-turn c =
@@ -76,12 +43,6 @@ add-number c =
       fits = read-fits (a .s .now) (a .at .0) (a .w) (l .loop .j) (l .loop .done) (c .before .before .least .result) (l .loop .number) (c .fragment .result)
           (l .before .before .pre .0) (l .before .before .pre .1) (index c) (the-turn c) (l .loop .inv .2) (c .fragment .ensures);
     }
-
-add-done : tie.Need-add-done Inv-loop μ-loop
-add-done c = search needs
-
-add-j : tie.Need-add-j Inv-loop μ-loop
-add-j c = search needs
 
 loop-less : tie.Need-loop-less Inv-loop μ-loop
 loop-less c =
@@ -107,26 +68,4 @@ returns c =
 
 pub read-bits-spec : {M : Type 1} → statement M
 read-bits-spec =
-    tie.close
-    (tie.spec
-    Inv-loop
-    μ-loop
-    add-steps
-    add-steps-2
-    loop-holds
-    add-b
-    sub-least
-    sub-least-2
-    least-requires
-    add-fragment
-    shared-slice-read-fragment
-    cast-fragment
-    fragment-requires
-    cast-number
-    shl-number
-    add-number
-    add-done
-    add-j
-    loop-less
-    loop-again
-    returns)
+    tie.close (tie.spec Inv-loop μ-loop (λ c. search needs) (λ c. search needs) loop-holds (λ c. search needs) (λ c. search needs) (λ c. search needs) (λ c κs. search needs) (λ c. search needs) (λ c. search needs) cast-fragment (λ c κs. search needs) (λ c. search needs) (λ c. search needs) add-number (λ c. search needs) (λ c. search needs) loop-less loop-again returns)

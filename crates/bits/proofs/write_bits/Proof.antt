@@ -21,36 +21,9 @@ Inv-loop out₀ w v at octet skip steps done₀ j₀ out done j =
 abbrev μ-loop : tie.MeasureT-loop
 μ-loop out₀ w v at octet skip steps done₀ j₀ out done j = stepsOf at w - j
 
-add-steps : tie.Need-add-steps Inv-loop μ-loop
-add-steps c = search needs
-
-add-steps-2 : tie.Need-add-steps-2 Inv-loop μ-loop
-add-steps-2 c = search needs
-
 loop-holds : tie.Need-loop-holds Inv-loop μ-loop
 unfolding lowBits
 loop-holds c = (omega arith, omega arith, refl, sym (splice-nil (bitsOf (c .before .args .out .now)) (c .before .args .at .0)))
-
-add-b : tie.Need-add-b Inv-loop μ-loop
-add-b c = search needs
-
-sub-least : tie.Need-sub-least Inv-loop μ-loop
-sub-least c = search needs
-
-sub-least-2 : tie.Need-sub-least-2 Inv-loop μ-loop
-sub-least-2 c = search needs
-
-least-requires : tie.Need-least-requires Inv-loop μ-loop
-least-requires c κs = search needs
-
-fragment-requires : tie.Need-fragment-requires Inv-loop μ-loop
-fragment-requires c κs = search needs
-
-add-o : tie.Need-add-o Inv-loop μ-loop
-add-o c = search needs
-
-slice-read-patched : tie.Need-slice-read-patched Inv-loop μ-loop
-slice-read-patched c = search needs
 
 -- the numbers of a turn
 the-turn : (c : tie.After-least Inv-loop μ-loop) → Turn (c .before .before .before .before .args .at .0) (c .before .before .before .before .args .w) (c .before .before .loop .j) (c .before .before .loop .done) (c .least .result)
@@ -66,15 +39,6 @@ patched-requires : tie.Need-patched-requires Inv-loop μ-loop
 patched-requires c κs =
     let n = c .before .before .least .result in
     (the-turn (c .before .before) .within, subst (λ (k : ℕ). k < 2 ^ n) (sym (c .before .fragment .ensures)) (mod-lt _ (pow-pos n)))
-
-slice-write-out : tie.Need-slice-write-out Inv-loop μ-loop
-slice-write-out c = search needs
-
-add-done : tie.Need-add-done Inv-loop μ-loop
-add-done c = search needs
-
-add-j : tie.Need-add-j Inv-loop μ-loop
-add-j c = search needs
 
 loop-less : tie.Need-loop-less Inv-loop μ-loop
 loop-less c =
@@ -94,9 +58,6 @@ loop-again c =
           (l .before .before .pre .0) (index t) (the-turn t) (l .loop .inv .3) (c .before .before .fragment .ensures) (c .patched .ensures),
     )
 
-same-length : tie.Need-same-length Inv-loop μ-loop
-same-length c = search needs
-
 returns : tie.Need-returns Inv-loop μ-loop
 returns c =
     let l = c .before in
@@ -105,25 +66,4 @@ returns c =
 
 pub write-bits-spec : {M : Type 1} → statement M
 write-bits-spec =
-    tie.close
-    (tie.spec
-    Inv-loop
-    μ-loop
-    add-steps
-    add-steps-2
-    loop-holds
-    add-b
-    sub-least
-    sub-least-2
-    least-requires
-    fragment-requires
-    add-o
-    slice-read-patched
-    patched-requires
-    slice-write-out
-    add-done
-    add-j
-    loop-less
-    loop-again
-    same-length
-    returns)
+    tie.close (tie.spec Inv-loop μ-loop (λ c. search needs) (λ c. search needs) loop-holds (λ c. search needs) (λ c. search needs) (λ c. search needs) (λ c κs. search needs) (λ c κs. search needs) (λ c. search needs) (λ c. search needs) patched-requires (λ c. search needs) (λ c. search needs) (λ c. search needs) loop-less loop-again (λ c. search needs) returns)

@@ -1,0 +1,9 @@
+// Links the proved library that `rt staticlib field_bench` writes below target/ of the repository.
+use std::path::PathBuf;
+
+fn main() {
+    let folder = PathBuf::from(env!("CARGO_MANIFEST_DIR")).join("../../target/staticlib");
+    println!("cargo:rustc-link-search=native={}", folder.display());
+    println!("cargo:rustc-link-lib=static=field_bench");
+    println!("cargo:rerun-if-changed={}", folder.join("libfield_bench.a").display());
+}

@@ -1,0 +1,24 @@
+//! The proved field functions behind safe wrappers, which test what the contracts require.
+
+mod ffi {
+    extern "C" {
+        pub fn field_bench_read(s: *const u8, len: usize, at: usize, w: usize) -> u32;
+        pub fn field_bench_write(out: *mut u8, len: usize, at: usize, w: usize, v: u32);
+    }
+}
+
+fn fits(octets: usize, at: usize, w: usize) -> bool {
+    w <= 24 && at.checked_add(w).is_some_and(|end| end <= octets.saturating_mul(8))
+}
+
+#[inline(never)]
+pub fn read(s: &[u8], at: usize, w: usize) -> u32 {
+    assert!(fits(s.len(), at, w));
+    unsafe { ffi::field_bench_read(s.as_ptr(), s.len(), at, w) }
+}
+
+#[inline(never)]
+pub fn write(out: &mut [u8], at: usize, w: usize, v: u32) {
+    assert!(fits(out.len(), at, w));
+    unsafe { ffi::field_bench_write(out.as_mut_ptr(), out.len(), at, w, v) }
+}
