@@ -1,14 +1,15 @@
 -- A codec seen in the cells of another type, in another shape, or with a test behind it has a codec's laws. Assumes nothing.
 use Prim.Native.Nat.{ℕ, _+_, _<_}
-use mathlib.Core.Path.{_≡_, refl, ap, _∙_, subst⁻¹, subst₂}
+use native.Mathlib.Omega.{arith}
+use mathlib.Core.Path.{_≡_, refl, ap, _∙_, sym, subst⁻¹, subst₂}
 use mathlib.Core.Bool.{Bool, true, false}
 use mathlib.Core.List.{List, _++_}
 use lib.ListN.{length, drop}
 use Rattle.codec.specs.Answer.{Answer, got, refused, next, pick}
-use Rattle.codec.specs.Codec.{Codec, flag, first, viewed, shaped, tested, same, must}
+use Rattle.codec.specs.Codec.{Codec, flag, first, _thenBy_, _&_, viewed, shaped, tested, same, must, _closedBy_}
 use Rattle.codec.proofs.Lawful.{Accepted, Lawful, never}
 use Rattle.codec.proofs.Fields.{flag-lawful, passed}
-use Rattle.codec.proofs.Sequences.{first-zero, first-same}
+use Rattle.codec.proofs.Sequences.{first-zero, and-lawful}
 
 module _ {A B : Type 0} (to : A → B) (from : B → A) (clean : B → B) (fine : B → Bool) (fault : ℕ) (c : Codec A) (lc : Lawful c)
     (back : (x : A) → c .check x ≡ 0 → c .norm x ≡ x → from (to x) ≡ x)
@@ -81,3 +82,19 @@ module _ {A : Type 0} (test : A → Bool) (fault : ℕ) (hf : 0 < fault) (c : Co
 pub must-lawful : (b : Bool) (fault : ℕ) → 0 < fault → Lawful (must b fault)
 unfolding flag
 must-lawful b fault hf = tested-lawful (λ x. same x b) fault hf flag flag-lawful (λ x. refl)
+
+-- behind a legal value the closing bit is 0
+closed : {A : Type 0} (c : Codec A) (fault : ℕ) → 0 < fault → (x : A) (b : Bool) → (c & must false fault) .check (x, b) ≡ 0 → b ≡ false
+unfolding _thenBy_ tested flag first
+closed c fault hf x false l = refl
+closed c fault hf x true l = absurd (omega (arith, first-zero (c .check x) fault l .1))
+
+pub closedBy-lawful : {A : Type 0} {c : Codec A} (fault : ℕ) → 0 < fault → Lawful c → Lawful (c closedBy fault)
+unfolding _closedBy_ _thenBy_ tested flag first
+closedBy-lawful {c = c} fault hf lc =
+    viewed-lawful _ _ _ _ 0 (c & must false fault) (and-lawful lc (must-lawful false fault hf))
+    (λ x l n. ap (λ (b : Bool). (x .0, b)) (sym (closed c fault hf (x .0) (x .1) l)))
+    (λ x l. refl)
+    (λ y l. l)
+    (λ y l. refl)
+    (λ y. rw (lc .judged y))

@@ -114,3 +114,9 @@ same false b = not b
 -- a presence or recurrence bit that has to be b
 abbrev pub must : Bool → ℕ → Codec Bool
 must b fault = tested (λ x. same x b) fault flag
+
+-- c, then a bit that has to be 0, for which there is no cell
+unfoldable pub _closedBy_ : {A : Type 0} → Codec A → ℕ → Codec A
+_closedBy_ c fault = viewed (λ x. x .0) (λ y. (y, false)) (c .norm) (λ y. true) 0 (c & must false fault)
+
+infixl 10 _closedBy_
