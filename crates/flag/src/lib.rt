@@ -2,17 +2,19 @@
 // check.
 ghost use mathlib.Core.Path.{_≡_};
 ghost use Prim.Native.Nat.{_+_, _≤_};
+ghost use mathlib.Core.Bool.{false};
 ghost use lib.ListN.{length};
 ghost use Rattle.bits.specs.Bits.{bitsOf};
 ghost use Rattle.bits.specs.Units.{datagramLimit};
 ghost use Rattle.codec.specs.Codec.{flag, must, same};
 ghost use Rattle.codec.specs.Lists.{recurs};
-ghost use Rattle.codec.specs.Refusals.{faultNo, flagAnswer, checkNo};
+ghost use Rattle.codec.specs.Refusals.{faultNo, answer, flagAnswer, checkNo};
 ghost use Rattle.codec.specs.Writes.{Placed, Room, Writes};
 use bits::BitPlace;
 use codec::Check;
 use codec::Fault;
 use codec::Flag;
+use codec::Step;
 
 pub fn read_flag(s: &[u8], at: BitPlace) -> Flag
     requires { ⌜ length (now s) ≤ datagramLimit ⌝ }
@@ -52,6 +54,21 @@ pub fn read_must(s: &[u8], at: BitPlace, b: bool, fault: Fault) -> Flag
         return Flag::Got(x, next);
     }
     Flag::Refused(fault, at)
+}
+
+// A bit that has to be 0 and for which there is no cell.
+pub fn read_zero(s: &[u8], at: BitPlace, fault: Fault) -> Step
+    requires { ⌜ length (now s) ≤ datagramLimit ⌝ }
+    ensures { λ r. ⌜ answer r false ≡ must false (faultNo fault) .read (bitsOf (now (s .entry))) (at .0) ⌝ }
+{
+    let a = read_flag(s, at);
+    let Flag::Got(x, next) = a else {
+        return a.step();
+    };
+    if x {
+        return Step::Refused(fault, at);
+    }
+    Step::Next(next)
 }
 
 // A recurrence bit with room for `left` entries behind its own.

@@ -94,10 +94,8 @@ pub front-lawful : Lawful front
 unfolding front
 front-lawful =
     shaped-lawful _ _
-    (and-lawful (num 4 2 2 2 (lit< tt) (lit< tt) (lit< tt))
-    (and-lawful (may 2 0 1 (lit< tt) (lit< tt))
-    (and-lawful originator-lawful
-    (thenBy-lawful recipients _ recipients-lawful (λ g. information-lawful (roomBehind g) (omega arith)) (λ g l. ap information (room-norm g))))))
+    (and-lawful (and-lawful (num 4 2 2 2 (lit< tt) (lit< tt) (lit< tt)) (and-lawful (may 2 0 1 (lit< tt) (lit< tt)) originator-lawful))
+    (thenBy-lawful recipients _ recipients-lawful (λ g. information-lawful (roomBehind g) (omega arith)) (λ g l. ap information (room-norm g))))
     (λ x. refl)
 
 date-lawful : Lawful date
@@ -198,8 +196,8 @@ pub block-lawful : Lawful block
 unfolding block
 block-lawful =
     shaped-lawful _ _
-    (and-lawful format-lawful
-    (and-lawful handling-lawful (and-lawful times-lawful (and-lawful optional-response-lawful (closedBy-lawful 7 (lit< tt) optional-references-lawful)))))
+    (and-lawful (and-lawful format-lawful (and-lawful handling-lawful times-lawful))
+    (and-lawful optional-response-lawful (closedBy-lawful 7 (lit< tt) optional-references-lawful)))
     (λ x. refl)
 
 blocks-lawful : Lawful blocks

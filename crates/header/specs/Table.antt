@@ -87,9 +87,9 @@ information n = shaped (λ x. record { present = x .0; addresses = x .1 }) (λ y
 unfoldable pub front : Codec Front
 front =
     shaped
-    (λ x. record { version = x .0; compression = x .1 .0; originator = x .1 .1 .0; recipients = x .1 .1 .1 .0; information = x .1 .1 .1 .1 })
-    (λ y. (y .version, (y .compression, (y .originator, (y .recipients, y .information)))))
-    (number 4 2 2 2 & maybe 2 0 1 & originator & recipients thenBy (λ g. information (roomBehind g)))
+    (λ x. record { version = x .0 .0; compression = x .0 .1 .0; originator = x .0 .1 .1; recipients = x .1 .0; information = x .1 .1 })
+    (λ y. ((y .version, (y .compression, y .originator)), (y .recipients, y .information)))
+    ((number 4 2 2 2 & maybe 2 0 1 & originator) & (recipients thenBy (λ g. information (roomBehind g))))
 
 -- year 7, month 4, day 5
 unfoldable pub date : Codec Date
@@ -183,9 +183,9 @@ optionalReferences = shaped (λ x. record { present = x .0; references = x .1 })
 unfoldable pub block : Codec Block
 block =
     shaped
-    (λ x. record { format = x .0; handling = x .1 .0; times = x .1 .1 .0; response = x .1 .1 .1 .0; references = x .1 .1 .1 .1 })
-    (λ y. (y .format, (y .handling, (y .times, (y .response, y .references)))))
-    (format & handling & times & optionalResponse & (optionalReferences closedBy 7))
+    (λ x. record { format = x .0 .0; handling = x .0 .1 .0; times = x .0 .1 .1; response = x .1 .0; references = x .1 .1 })
+    (λ y. ((y .format, (y .handling, y .times)), (y .response, y .references)))
+    ((format & handling & times) & (optionalResponse & (optionalReferences closedBy 7)))
 
 -- 1 to 16 message blocks
 unfoldable pub blocks : Codec Blocks

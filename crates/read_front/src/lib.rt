@@ -1,0 +1,4 @@
+// Reading the fields up to the end of G3, group by group.
+pub mod address;
+pub mod front;
+pub mod texts;
