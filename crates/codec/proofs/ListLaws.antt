@@ -161,3 +161,7 @@ module _ {A : Type 0} (x : A) (room most fault : ℕ) (c : Codec (List A)) (lc :
       (λ y l. fine-legal (fine y) _ fault hf l .1)
       cells-clean
       (λ y. rw (clean-length (y .0) (y .1)) (cells-judged y (fine y) refl))
+
+-- an array's length, from what owning it tells
+pub unmapped : (X Y : Type 0) (f : X → Y) (l : List X) (n : ℕ) → length (map f l) ≡ n → length l ≡ n
+unmapped X Y f l n e = sym (length-map f l) ∙ e

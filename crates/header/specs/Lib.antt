@@ -1,2 +1,4 @@
 pub mod Zero
 pub mod Table
+pub mod Rules
+pub mod Sizes

@@ -221,3 +221,12 @@ pub struct Wire {
     pub size: OptionalNumber,
     pub blocks: Blocks,
 }
+
+// What the rules look at in the fields before the blocks: whether there is an originator, compression, a header size, and
+// more than one block.
+pub struct Setting {
+    pub originator: bool,
+    pub compression: bool,
+    pub sized: bool,
+    pub several: bool,
+}

@@ -1,0 +1,78 @@
+-- Document 01's rules (a) to (i), in their order. Each says of a block, in its setting, that the rule is kept.
+use Prim.Native.Nat.{ℕ}
+use mathlib.Core.Bool.{Bool, true, false, not, _&&_, _||_}
+use mathlib.Core.List.{List, [], _∷_}
+use lib.ListN.{take}
+use lib.Dec.{leb, eqb}
+use Rattle.header.specs.declared.Block.{Block}
+use Rattle.header.specs.declared.Blocks.{Blocks}
+use Rattle.header.specs.declared.Header.{Header}
+use Rattle.header.specs.declared.Setting.{Setting}
+
+-- where a holds, b has to
+abbrev pub _⇒_ : Bool → Bool → Bool
+true ⇒ b = b
+false ⇒ b = true
+
+infixr 10 _⇒_
+-- (a) no G1: no G7
+unfoldable pub ruleA : Setting → Block → Bool
+ruleA x b = not (x .originator) ⇒ not (b .times .requests .present)
+
+-- (b) G8: no G6, no G7
+unfoldable pub ruleB : Setting → Block → Bool
+ruleB x b = b .response .present ⇒ (not (b .times .perish .present) && not (b .times .requests .present))
+
+-- (c) UMF 1: no G4
+unfoldable pub ruleC : Setting → Block → Bool
+ruleC x b = eqb (b .format .umf) 1 ⇒ not (b .format .identity .present)
+
+-- (d) UMF 4: no G4
+unfoldable pub ruleD : Setting → Block → Bool
+ruleD x b = eqb (b .format .umf) 4 ⇒ not (b .format .identity .present)
+
+-- (e) compression: no G8
+unfoldable pub ruleE : Setting → Block → Bool
+ruleE x b = x .compression ⇒ not (b .response .present)
+
+-- (f) several blocks: header size and every message size present
+unfoldable pub ruleF : Setting → Block → Bool
+ruleF x b = x .several ⇒ (x .sized && b .handling .size .present)
+
+-- (g) R/C not 6: no CANTCO reason
+unfoldable pub ruleG : Setting → Block → Bool
+ruleG x b = b .response .present ⇒ not (eqb (b .response .response .compliance .code) 6) ⇒ not (b .response .response .compliance .cantco .present)
+
+-- (h) R/C not 2: no CANTPRO reason
+unfoldable pub ruleH : Setting → Block → Bool
+ruleH x b = b .response .present ⇒ not (eqb (b .response .response .compliance .code) 2) ⇒ not (b .response .response .compliance .cantpro .present)
+
+-- (i) any request bit of G7 is 1: G5 present
+unfoldable pub ruleI : Setting → Block → Bool
+ruleI x b =
+    b .times .requests .present
+    ⇒ (b .times .requests .requests .machine || b .times .requests .requests .acknowledge || b .times .requests .requests .reply)
+    ⇒ b .times .origin .present
+
+abbrev pub rules : List (Setting → Block → Bool)
+rules = ruleA ∷ ruleB ∷ ruleC ∷ ruleD ∷ ruleE ∷ ruleF ∷ ruleG ∷ ruleH ∷ ruleI ∷ []
+
+unfoldable pub all : {A : Type 0} → (A → Bool) → List A → Bool
+all f [] = true
+all f (x ∷ xs) = f x && all f xs
+
+abbrev pub usedBlocks : Blocks → List Block
+usedBlocks g = take (g .count) (g .list)
+
+abbrev pub settingOf : Header → Setting
+settingOf h =
+    record {
+      originator = h .front .originator .present;
+      compression = h .front .compression .present;
+      sized = h .sized;
+      several = leb 2 (h .blocks .count);
+    }
+
+-- every rule, in order, is kept by every block from the first
+unfoldable pub rulesKept : Header → Bool
+rulesKept h = all (λ rule. all (rule (settingOf h)) (usedBlocks (h .blocks))) rules
