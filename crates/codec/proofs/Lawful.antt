@@ -1,9 +1,9 @@
 -- The laws of a codec, and what holds of every codec that has them. Assumes nothing.
-use Prim.Native.Nat.{ℕ, _+_}
+use Prim.Native.Nat.{ℕ, _+_, _≤_}
 use mathlib.Core.Path.{_≡_, refl, ap, sym, _∙_, subst⁻¹}
 use mathlib.Core.Bool.{Bool}
 use mathlib.Core.List.{List, [], _++_}
-use lib.ListN.{length, take, drop}
+use lib.ListN.{length, take, drop, length-append}
 use lib.Seq.{drop-drop, drop-append-seam, take-append-seam, take-at}
 use native.Mathlib.Omega.{arith}
 use Rattle.codec.specs.Answer.{got, refused}
@@ -43,6 +43,10 @@ module _ {A : Type 0} {c : Codec A} (lc : Lawful c) where
   written-back bs q x e =
       let k = lc .accepted bs 0 q x e in
       (k .legal, sym (rw (k .ends) (subst⁻¹ (λ (l : List Bool). take (0 + length (c .write x)) l ≡ c .write x) (k .same) (take-at (c .write x) (drop q bs) (0 + length (c .write x)) (omega arith)))))
+
+  -- a reading from the first bit on ends within the bits
+  pub read-within : (bs : List Bool) (q : ℕ) (x : A) → c .read bs 0 ≡ got x q → q ≤ length bs
+  read-within bs q x e = let k = lc .accepted bs 0 q x e in omega (arith, k .ends, simp length-append at (ap length (k .same)))
 
   -- no value's bits begin another's: where they do, the two values are the same but for their unused cells
   pub prefix-free : (x y : A) (r t : List Bool) → c .check x ≡ 0 → c .check y ≡ 0 → c .write x ++ r ≡ c .write y ++ t → (c .write x ≡ c .write y) × (c .norm x ≡ c .norm y)

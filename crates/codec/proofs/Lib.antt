@@ -8,3 +8,5 @@ pub mod Told
 pub mod Compose
 pub mod Cells
 pub mod ListLoops
+pub mod Bounds
+pub mod Agrees

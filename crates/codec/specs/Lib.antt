@@ -4,3 +4,4 @@ pub mod Characters
 pub mod Lists
 pub mod Refusals
 pub mod Writes
+pub mod Same

@@ -68,7 +68,7 @@ unfolding roomBit
 room-bit-lawful zero = must-lawful false 5 (lit< tt)
 room-bit-lawful (suc n) = flag-lawful
 
-room-bit-norm : (n : ℕ) (b : Bool) → roomBit n .norm b ≡ b
+pub room-bit-norm : (n : ℕ) (b : Bool) → roomBit n .norm b ≡ b
 unfolding roomBit tested flag
 room-bit-norm zero b = refl
 room-bit-norm (suc n) b = refl

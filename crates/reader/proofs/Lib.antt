@@ -1,0 +1,3 @@
+mod FillBits
+mod Judging
+pub mod Accepts

@@ -1,0 +1,12 @@
+-- `reader::refusal` meets its contract. Assumes nothing.
+use borrow.Author.Needs.{needs}
+use Rattle.reader.specs.Told.{toTell, outcomeDone, outcomeNo, outcomePlace}
+use Rattle.reader.proofs.refusal.Statement.{statement}
+use Rattle.reader.proofs.refusal.Tie as tie
+
+returns : tie.Need-returns
+unfolding toTell outcomeDone outcomeNo outcomePlace
+returns c = rw (c .no-header .ensures)
+
+pub refusal-spec : {M : Type 1} → statement M
+refusal-spec = tie.close (tie.spec (λ c κs. search needs) returns)

@@ -1,0 +1,171 @@
+-- Document 01's starred cases: a datagram, what reading it gives, and the user data behind its header. The records are written out field by field; a
+-- group that is absent has the zero value in its cells.
+use Prim.Native.Nat.{ℕ}
+use mathlib.Core.Path.{_≡_}
+use mathlib.Core.Bool.{Bool, true, false}
+use mathlib.Core.List.{List, [], _∷_}
+use lib.ListN.{replicate}
+use Rattle.header.specs.Zero.{noNumber, noOptionalText, noAddress, noAddresses, noDtg, noStamp, noIdentity, noRequests, noResponse, noReferences, noBlock}
+use Rattle.header.specs.declared.Address.{Address}
+use Rattle.header.specs.declared.Addresses.{Addresses}
+use Rattle.header.specs.declared.Block.{Block}
+use Rattle.header.specs.declared.Codes.{Codes}
+use Rattle.header.specs.declared.Stamp.{Stamp}
+use Rattle.header.specs.declared.Header.{Header}
+use Rattle.reader.specs.Reading.{Reading, accepted, rejected, reading, userData}
+
+pub record Case : Type 0 where
+  pub datagram : List ℕ
+  pub gives : Reading
+  pub behind : List ℕ
+
+-- a case holds of the definitions that the contracts of `read` and `user_data` cite
+abbrev pub Holds : Case → Type 0
+Holds c = (reading (c .datagram) ≡ c .gives) × (userData (c .datagram) ≡ c .behind)
+
+abbrev pub AllHold : List Case → Type 0
+AllHold [] = Unit {0}
+AllHold (c ∷ cs) = Holds c × AllHold cs
+
+abbrev refusedWith : List ℕ → ℕ → ℕ → Case
+refusedWith s number place = record { datagram = s; gives = rejected number place; behind = [] }
+
+abbrev acceptedAs : List ℕ → List ℕ → Header → ℕ → Case
+acceptedAs s d h octets = record { datagram = s; gives = accepted h octets; behind = d }
+
+-- an address by its URN
+abbrev byUrn : ℕ → Address
+byUrn n = record { urn = record { present = true; value = n }; name = noOptionalText }
+
+-- one address
+abbrev one : Address → Addresses
+one a = record { list = a ∷ replicate 15 noAddress; count = 1 }
+
+-- operation, retransmit, precedence and classification all 0
+abbrev plain : Codes
+plain = record { operation = 0; retransmit = 0; precedence = 0; classification = 0 }
+
+-- 96-07-03 16:27:55, no extension
+abbrev july3 : Stamp
+july3 =
+    record {
+      dtg = record { date = record { year = 96; month = 7; day = 3 }; time = record { hour = 16; minute = 27; second = 55 } };
+      extension = noNumber;
+    }
+
+-- a block in format 2 with nothing present
+abbrev bare : Block
+bare =
+    record {
+      format = record { umf = 2; version = noNumber; identity = record { present = false; identity = noIdentity }; file = noOptionalText };
+      handling = record { size = noNumber; codes = plain; marking = noOptionalText };
+      times =
+          record {
+            origin = record { present = false; stamp = noStamp };
+            perish = record { present = false; dtg = noDtg };
+            requests = record { present = false; requests = noRequests };
+          };
+      response = record { present = false; response = noResponse };
+      references = record { present = false; references = noReferences };
+    }
+
+-- A: no addresses, UMF 2
+abbrev recordA : Header
+recordA =
+    record {
+      front =
+          record {
+            version = 2;
+            compression = noNumber;
+            originator = record { present = false; address = noAddress };
+            recipients = record { present = false; addresses = noAddresses };
+            information = record { present = false; addresses = noAddresses };
+          };
+      sized = false;
+      blocks = record { list = bare ∷ replicate 15 noBlock; count = 1 };
+    }
+
+-- B: URN 207 to URN 3, UMF 2, 96-07-03 16:27:55, machine request
+abbrev recordB : Header
+recordB =
+    record {
+      front =
+          record {
+            version = 2;
+            compression = noNumber;
+            originator = record { present = true; address = byUrn 207 };
+            recipients = record { present = true; addresses = one (byUrn 3) };
+            information = record { present = false; addresses = noAddresses };
+          };
+      sized = false;
+      blocks =
+          record {
+            list =
+                record {
+                  format = record { umf = 2; version = noNumber; identity = record { present = false; identity = noIdentity }; file = noOptionalText };
+                  handling = record { size = noNumber; codes = plain; marking = noOptionalText };
+                  times =
+                      record {
+                        origin = record { present = true; stamp = july3 };
+                        perish = record { present = false; dtg = noDtg };
+                        requests = record { present = true; requests = record { machine = true; acknowledge = false; reply = false } };
+                      };
+                  response = record { present = false; response = noResponse };
+                  references = record { present = false; references = noReferences };
+                }
+                ∷ replicate 15 noBlock;
+            count = 1;
+          };
+    }
+
+-- C: the receipt for B, from URN 3 to URN 207, R/C 1
+abbrev recordC : Header
+recordC =
+    record {
+      front =
+          record {
+            version = 2;
+            compression = noNumber;
+            originator = record { present = true; address = byUrn 3 };
+            recipients = record { present = true; addresses = one (byUrn 207) };
+            information = record { present = false; addresses = noAddresses };
+          };
+      sized = false;
+      blocks =
+          record {
+            list =
+                record {
+                  format = record { umf = 2; version = noNumber; identity = record { present = false; identity = noIdentity }; file = noOptionalText };
+                  handling = record { size = noNumber; codes = plain; marking = noOptionalText };
+                  times =
+                      record {
+                        origin = record { present = false; stamp = noStamp };
+                        perish = record { present = false; dtg = noDtg };
+                        requests = record { present = false; requests = noRequests };
+                      };
+                  response =
+                      record {
+                        present = true;
+                        response = record { stamp = july3; compliance = record { code = 1; cantco = noNumber; cantpro = noNumber }; amplification = noOptionalText };
+                      };
+                  references = record { present = false; references = noReferences };
+                }
+                ∷ replicate 15 noBlock;
+            count = 1;
+          };
+    }
+
+unfoldable pub cases : List Case
+cases =
+    -- A with one octet of data; without data; its last octet 02 (a fill bit), and 01 (the presence bit of G10)
+    acceptedAs (0x02 ∷ 0x08 ∷ 0x00 ∷ 0x00 ∷ 0x00 ∷ 0x5A ∷ []) (0x5A ∷ []) recordA 5
+    ∷ refusedWith (0x02 ∷ 0x08 ∷ 0x00 ∷ 0x00 ∷ 0x00 ∷ []) 10 0
+    ∷ refusedWith (0x02 ∷ 0x08 ∷ 0x00 ∷ 0x00 ∷ 0x02 ∷ 0x5A ∷ []) 9 33
+    ∷ refusedWith (0x02 ∷ 0x08 ∷ 0x00 ∷ 0x00 ∷ 0x01 ∷ 0x5A ∷ []) 7 32
+    -- empty input; first octet 01
+    ∷ refusedWith [] 1 0
+    ∷ refusedWith (0x01 ∷ 0x08 ∷ 0x00 ∷ 0x00 ∷ 0x00 ∷ 0x5A ∷ []) 2 0
+    -- B with one octet of data, and C
+    ∷ acceptedAs (0xE2 ∷ 0x67 ∷ 0x00 ∷ 0x00 ∷ 0x1D ∷ 0x00 ∷ 0x00 ∷ 0x00 ∷ 0x01 ∷ 0x00 ∷ 0xC1 ∷ 0x37 ∷ 0xE0 ∷ 0x76 ∷ 0x33 ∷ 0x00 ∷ 0x01 ∷ []) (0x01 ∷ []) recordB 16
+    ∷ acceptedAs (0xE2 ∷ 0x01 ∷ 0x00 ∷ 0x00 ∷ 0x7D ∷ 0x06 ∷ 0x00 ∷ 0x00 ∷ 0x01 ∷ 0x00 ∷ 0x08 ∷ 0xBE ∷ 0x01 ∷ 0xB7 ∷ 0x5B ∷ 0x00 ∷ []) [] recordC 16
+    ∷ []
