@@ -1,8 +1,3 @@
-// Reading the message blocks, group by group.
+// Reading the references of a message block, a whole block, and the list of blocks.
 pub mod block;
-pub mod dtg;
-pub mod format;
-pub mod handling;
 pub mod references;
-pub mod response;
-pub mod times;

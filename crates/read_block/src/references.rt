@@ -8,7 +8,7 @@ ghost use Rattle.codec.specs.Codec.{_&_};
 ghost use Rattle.codec.specs.Lists.{recurs};
 ghost use Rattle.codec.specs.Refusals.{answer};
 ghost use Rattle.header.specs.Table.{reference, references, optionalReferences};
-use crate::dtg::read_stamp;
+use read_group::dtg::read_stamp;
 use bits::BitPlace;
 use codec::Flag;
 use codec::Step;

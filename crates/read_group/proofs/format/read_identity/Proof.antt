@@ -1,0 +1,25 @@
+-- `read_group::format::read_identity` meets its contract. Assumes nothing.
+use borrow.Author.Needs.{needs}
+use Rattle.codec.proofs.Compose.{getting, stopping}
+use Rattle.header.specs.Table.{identity}
+use Rattle.read_group.proofs.format.read_identity.Statement.{statement}
+use Rattle.read_group.proofs.format.read_identity.Tie as tie
+
+returns : tie.Need-returns
+unfolding identity
+returns c = search stopping depth 12
+
+returns-2 : tie.Need-returns-2
+unfolding identity
+returns-2 c = search stopping depth 12
+
+returns-3 : tie.Need-returns-3
+unfolding identity
+returns-3 c = search stopping depth 12
+
+returns-4 : tie.Need-returns-4
+unfolding identity
+returns-4 c = search getting depth 12
+
+pub read-identity-spec : {M : Type 1} → statement M
+read-identity-spec = tie.close (tie.spec (λ c κs. search needs) (λ c. search needs) (λ c. search needs) (λ c κs. search needs) returns (λ c κs. search needs) (λ c. search needs) (λ c. search needs) (λ c κs. search needs) returns-2 (λ c κs. search needs) (λ c. search needs) (λ c. search needs) returns-3 returns-4)

@@ -1,0 +1,42 @@
+-- `read_group::response::read_response` meets its contract. Assumes nothing.
+use borrow.Author.Needs.{needs}
+use Rattle.codec.proofs.Compose.{getting, stopping, stopped, shape-stop, here-stop, number-then-stop, flag-then-stop, group-then-stop, number-stop, flag-stop, group-stop}
+use Rattle.header.specs.Table.{response}
+use Rattle.read_group.proofs.response.read_response.Statement.{statement}
+use Rattle.read_group.proofs.response.read_response.Tie as tie
+
+returns : tie.Need-returns
+unfolding response
+returns c = search stopping depth 12
+
+returns-2 : tie.Need-returns-2
+unfolding response
+returns-2 c = search stopping depth 12
+
+returns-3 : tie.Need-returns-3
+unfolding response
+returns-3 c = search (
+  stopped,
+  shape-stop,
+  here-stop,
+  number-then-stop,
+  flag-then-stop,
+  group-then-stop,
+  number-stop,
+  flag-stop,
+  group-stop,
+  c .before .before .match3 .keys2,
+  c .before .before .before .before .read-optional-text .ensures,
+  c .before .before .before .before .before .before .step2 .given .1,
+  c .before .before .before .before .before .before .before .before .before .read-compliance .ensures,
+  c .before .before .before .before .before .before .before .before .before .before .before .step .given .1,
+  c .before .before .before .before .before .before .before .before .before .before .before .before .before .before .read-stamp .ensures,
+)
+    depth 14 fits 6000
+
+returns-4 : tie.Need-returns-4
+unfolding response
+returns-4 c = search getting depth 12
+
+pub read-response-spec : {M : Type 1} → statement M
+read-response-spec = tie.close (tie.spec (λ c κs. search needs) (λ c. search needs) (λ c. search needs) (λ c κs. search needs) returns (λ c κs. search needs) (λ c. search needs) (λ c. search needs) (λ c κs. search needs) returns-2 (λ c κs. search needs) (λ c. search needs) (λ c. search needs) (λ c κs. search needs) returns-3 returns-4)

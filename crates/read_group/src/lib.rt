@@ -1,0 +1,6 @@
+// Reading the groups of a message block up to G8.
+pub mod dtg;
+pub mod format;
+pub mod handling;
+pub mod response;
+pub mod times;
