@@ -8,11 +8,7 @@ ghost use Rattle.codec.specs.Codec.{_&_, _closedBy_};
 ghost use Rattle.codec.specs.Lists.{recurs};
 ghost use Rattle.codec.specs.Refusals.{answer};
 ghost use Rattle.header.specs.Table.{format, handling, times, optionalResponse, optionalReferences, block, blocks};
-use read_group::format::read_format;
-use read_group::handling::read_handling;
 use crate::references::read_optional_references;
-use read_group::response::read_optional_response;
-use read_group::times::read_times;
 use bits::BitPlace;
 use codec::Fault;
 use codec::Flag;
@@ -33,6 +29,10 @@ use header::zero::no_format;
 use header::zero::no_handling;
 use header::zero::no_references;
 use header::zero::no_response;
+use read_group::format::read_format;
+use read_group::handling::read_handling;
+use read_group::response::read_optional_response;
+use read_group::times::read_times;
 
 // The fields from the user message format to G7.
 pub struct HeadRead {

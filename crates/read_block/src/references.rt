@@ -8,7 +8,6 @@ ghost use Rattle.codec.specs.Codec.{_&_};
 ghost use Rattle.codec.specs.Lists.{recurs};
 ghost use Rattle.codec.specs.Refusals.{answer};
 ghost use Rattle.header.specs.Table.{reference, references, optionalReferences};
-use read_group::dtg::read_stamp;
 use bits::BitPlace;
 use codec::Flag;
 use codec::Step;
@@ -20,6 +19,7 @@ use header::References;
 use header::zero::no_reference;
 use header::zero::no_references;
 use read_front::address::read_address;
+use read_group::dtg::read_stamp;
 
 pub struct ReferenceRead {
     pub step: Step,
