@@ -1,6 +1,6 @@
 -- How the readings, writings, checks and ends of fields make those of a group. The proofs of functions that go field by field cite the rule sets.
 -- Each law's middle terms stand in a premise that a callee's contract or a pattern proves as it stands, so that `search` finds them. Assumes nothing.
-use Prim.Native.Nat.{ℕ, _+_, _*_, _≤_}
+use Prim.Native.Nat.{ℕ, zero, suc, _+_}
 use mathlib.Core.Path.{_≡_, refl, ap, ap₂, sym, _∙_}
 use mathlib.Core.Bool.{Bool, true, false}
 use mathlib.Core.List.{List, _++_}
@@ -12,7 +12,7 @@ use Rattle.bits.specs.Bits.{bitsOf, splice}
 use Rattle.bits.specs.declared.BitPlace.{BitPlace}
 use Rattle.bits.proofs.Splices.{splice-splice, splice-nil}
 use Rattle.codec.specs.Answer.{Answer, got, refused, next}
-use Rattle.codec.specs.Codec.{Codec, first, nothing, _thenBy_, viewed, present, tested, flag}
+use Rattle.codec.specs.Codec.{Codec, first, nothing, _thenBy_, viewed, present, tested, flag, _closedBy_}
 use Rattle.codec.specs.Refusals.{faultNo, answer, numberAnswer, flagAnswer, numberStep, flagStep, checkNo}
 use Rattle.codec.specs.Writes.{Writes}
 use Rattle.codec.specs.declared.Fault.{Fault}
@@ -212,4 +212,13 @@ module _ {A B : Type 0} (to : A → B) (from : B → A) (clean : B → B) (c : C
   unfolding viewed
   shape-checks y r e = e
 
-pub ruleset checking = (then-checks, flag-checks, shape-checks, present-check, absent-check)
+-- the closing bit has no cell, and so no fault
+pub closed-checks : {A : Type 0} (c : Codec A) (fault : ℕ) (y : A) (r : ℕ) → r ≡ c .check y → r ≡ (c closedBy fault) .check y
+unfolding _closedBy_ viewed _thenBy_ tested flag first
+closed-checks c fault y r e = e ∙ go (c .check y)
+  where
+    go : (n : ℕ) → n ≡ first n 0
+    go zero = refl
+    go (suc n) = refl
+
+pub ruleset checking = (then-checks, flag-checks, shape-checks, closed-checks, present-check, absent-check)

@@ -10,3 +10,4 @@ pub mod Cells
 pub mod ListLoops
 pub mod Bounds
 pub mod Agrees
+pub mod ListChecks

@@ -45,7 +45,7 @@ fault-positive Size = lit< tt
 fault-positive NoRoom = lit< tt
 fault-positive TooLong = lit< tt
 
-first-refusal : (f g : ℕ) → 0 < f → f ≡ first f g
+pub first-refusal : (f g : ℕ) → 0 < f → f ≡ first f g
 unfolding first
 first-refusal zero g h = absurd (omega arith)
 first-refusal (suc f) g h = refl

@@ -3,6 +3,7 @@
 use optional::OptionalNumber;
 use text::Text;
 
+pub mod addressees;
 pub mod layout;
 pub mod zero;
 

@@ -19,6 +19,8 @@ use flag::read_must;
 use header::Front;
 use header::OptionalAddress;
 use header::OptionalAddresses;
+use header::addressees::one_less;
+use header::addressees::room_behind;
 use header::layout::COMPRESSION;
 use header::layout::VERSION;
 use header::zero::NO_NUMBER;
@@ -162,16 +164,6 @@ fn read_room_bit(s: &[u8], at: BitPlace, room: usize) -> Flag
     read_flag(s, at)
 }
 
-// One less, or 0.
-fn one_less(n: usize) -> usize
-    ensures { λ r. ⌜ r ≡ n - 1 ⌝ }
-{
-    if n == 0 {
-        return 0;
-    }
-    n - 1
-}
-
 // G3, with room for so many.
 pub fn read_information(s: &[u8], at: BitPlace, room: usize) -> AddresseesRead
     requires { ⌜ (length (now s) ≤ datagramLimit) × (room ≤ 16) ⌝ }
@@ -217,21 +209,6 @@ pub fn read_information(s: &[u8], at: BitPlace, room: usize) -> AddresseesRead
             addresses: none,
         },
     }
-}
-
-// How many addressees may stand in G3.
-fn room_behind(g: OptionalAddresses) -> usize
-    ensures { λ r. ⌜ r ≡ roomBehind g ⌝ }
-{
-    let present = g.present;
-    if !present {
-        return 16;
-    }
-    let count = g.addresses.count as usize;
-    if 16 < count {
-        return 0;
-    }
-    16 - count
 }
 
 fn read_origin(s: &[u8], at: BitPlace) -> OriginRead

@@ -1,10 +1,10 @@
--- `read_front::front::room_behind` meets its contract. Assumes nothing.
+-- `header::addressees::room_behind` meets its contract. Assumes nothing.
 use borrow.Author.Needs.{needs}
 use borrow.Author.Tests.{not-true, not-false}
 use mathlib.Core.Path.{refl}
 use native.Mathlib.Omega.{arith}
-use Rattle.read_front.proofs.front.room_behind.Statement.{statement}
-use Rattle.read_front.proofs.front.room_behind.Tie as tie
+use Rattle.header.proofs.addressees.room_behind.Statement.{statement}
+use Rattle.header.proofs.addressees.room_behind.Tie as tie
 
 returns : tie.Need-returns
 returns c = let e = not-true (c .before .args .g .present) (c .if1 .taken) in rw e refl

@@ -1,0 +1,13 @@
+-- `checker::format::check_identity` meets its contract. Assumes nothing.
+use borrow.Author.Needs.{needs}
+use Rattle.codec.proofs.Compose.{checking}
+use Rattle.header.specs.Table.{identity}
+use Rattle.checker.proofs.format.check_identity.Statement.{statement}
+use Rattle.checker.proofs.format.check_identity.Tie as tie
+
+returns : tie.Need-returns
+unfolding identity
+returns c = search checking depth 12
+
+pub check-identity-spec : {M : Type 1} → statement M
+check-identity-spec = tie.close (tie.spec (λ c κs. search needs) (λ c κs. search needs) (λ c κs. search needs) (λ c κs. search needs) (λ c κs. search needs) returns)

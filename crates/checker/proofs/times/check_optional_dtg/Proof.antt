@@ -1,0 +1,18 @@
+-- `checker::times::check_optional_dtg` meets its contract. Assumes nothing.
+use borrow.Author.Needs.{needs}
+use Rattle.codec.specs.Refusals.{checkNo}
+use Rattle.codec.proofs.Compose.{checking}
+use Rattle.header.specs.Table.{optionalDtg}
+use Rattle.checker.proofs.times.check_optional_dtg.Statement.{statement}
+use Rattle.checker.proofs.times.check_optional_dtg.Tie as tie
+
+returns : tie.Need-returns
+unfolding optionalDtg checkNo
+returns c = search checking depth 12
+
+returns-2 : tie.Need-returns-2
+unfolding optionalDtg checkNo
+returns-2 c = search checking depth 12
+
+pub check-optional-dtg-spec : {M : Type 1} → statement M
+check-optional-dtg-spec = tie.close (tie.spec (λ c κs. search needs) returns returns-2)
