@@ -33,6 +33,16 @@ some-map : {A B : Type 0} (f : A → B) (l : List A) → some (map f l) ≡ some
 some-map f [] = refl
 some-map f (x ∷ l) = refl
 
+pub recurs-lawful : (n : ℕ) → Lawful (recurs n)
+unfolding recurs
+recurs-lawful zero = must-lawful false 5 (lit< tt)
+recurs-lawful (suc n) = flag-lawful
+
+pub recurs-norm : (n : ℕ) (b : Bool) → recurs n .norm b ≡ b
+unfolding recurs tested flag
+recurs-norm zero b = refl
+recurs-norm (suc n) b = refl
+
 module _ {A : Type 0} (x : A) (c : Codec A) (lc : Lawful c) where
   -- an entry, and the others where its recurrence bit says so
   module _ (bit : Codec Bool) (rest : Codec (List A)) (lb : Lawful bit) (bn : (b : Bool) → bit .norm b ≡ b) (lr : Lawful rest)
@@ -99,10 +109,10 @@ module _ {A : Type 0} (x : A) (c : Codec A) (lc : Lawful c) where
   pub listed-lawful : (n : ℕ) → Lawful (listed x c n)
   unfolding listed recurs tested flag nothing first
   listed-lawful zero =
-      entries-lawful (recurs zero) (nothing []) (must-lawful false 5 (lit< tt)) (λ b. refl) (nothing-lawful [])
+      entries-lawful (recurs zero) (nothing []) (recurs-lawful zero) (recurs-norm zero) (nothing-lawful [])
       (λ l. absurd (omega arith)) (λ l. absurd (omega arith)) (λ ys. refl)
   listed-lawful (suc n) =
-      entries-lawful (recurs (suc n)) (listed x c n) flag-lawful (λ b. refl) (listed-lawful n)
+      entries-lawful (recurs (suc n)) (listed x c n) (recurs-lawful (suc n)) (recurs-norm (suc n)) (listed-lawful n)
       (λ l ys. listed-some n ys) (λ l ys. listed-norm n ys) (λ ys. ap (listed x c n .check) (sym (listed-norm n ys)) ∙ listed-lawful n .judged ys)
 
   -- a legal list has at most n + 1 entries

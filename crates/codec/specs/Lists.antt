@@ -10,7 +10,7 @@ abbrev pub some : {A : Type 0} → List A → Bool
 some [] = false
 some (x ∷ xs) = true
 
--- a recurrence bit with room for n entries behind its own; with room for none it has to be 0
+-- a bit that asks for more, with room for n: a recurrence bit with room for n entries behind its own; with room for none it has to be 0
 unfoldable pub recurs : ℕ → Codec Bool
 recurs zero = must false 5
 recurs (suc n) = flag

@@ -5,12 +5,12 @@ use mathlib.Core.Bool.{Bool, true, false, not}
 use lib.Dec.{lit<}
 use native.Mathlib.Omega.{arith}
 use Rattle.codec.specs.Codec.{flag, nothing, first, present, viewed, _thenBy_}
-use Rattle.codec.specs.Lists.{listed}
+use Rattle.codec.specs.Lists.{recurs, listed}
 use Rattle.codec.proofs.Bounds.{Bounded, number-bounded, flag-bounded, thenBy-bounded, behind-bounded, and-bounded, present-bounded, optional-bounded, shaped-bounded, tested-bounded, must-bounded, closedBy-bounded, characters-bounded, listed-each, cells-bounded, cells-legal, cells-counted, cells-each}
 use Rattle.optional.specs.Optionals.{optionalNumber}
 use Rattle.text.specs.Texts.{text, noText}
 use Rattle.header.specs.Zero.{noAddress, noAddresses, noDtg, noStamp, noIdentity, noRequests, noResponse, noReference, noReferences, noBlock}
-use Rattle.header.specs.Table.{maybe, optionalText, unitName, address, addresses, originator, recipients, roomBehind, roomBit, information, front, date, time, dtg, stamp, identity, optionalIdentity, format, codes, handling, optionalStamp, optionalDtg, requests, optionalRequests, times, compliance, response, optionalResponse, reference, references, optionalReferences, block, blocks, wire}
+use Rattle.header.specs.Table.{maybe, optionalText, unitName, address, addresses, originator, recipients, roomBehind, information, front, date, time, dtg, stamp, identity, optionalIdentity, format, codes, handling, optionalStamp, optionalDtg, requests, optionalRequests, times, compliance, response, optionalResponse, reference, references, optionalReferences, block, blocks, wire}
 use Rattle.header.specs.declared.Addresses.{Addresses}
 use Rattle.header.specs.declared.OptionalAddresses.{OptionalAddresses}
 use Rattle.header.specs.declared.Wire.{Wire}
@@ -51,14 +51,14 @@ originator-bounded : Bounded originator 475
 unfolding originator
 originator-bounded = shaped-bounded _ _ (optional-bounded noAddress address-bounded)
 
-room-bit-bounded : (n : ℕ) → Bounded (roomBit n) 1
-unfolding roomBit
-room-bit-bounded zero = must-bounded false 5
-room-bit-bounded (suc n) = flag-bounded
+recurs-bounded : (n : ℕ) → Bounded (recurs n) 1
+unfolding recurs
+recurs-bounded zero = must-bounded false 5
+recurs-bounded (suc n) = flag-bounded
 
 information-bounded : (n : ℕ) → Bounded (information n) (1 + suc (n - 1) * 475)
 unfolding information
-information-bounded n = shaped-bounded _ _ (behind-bounded (room-bit-bounded n) (present-bounded noAddresses (addresses-bounded (n - 1))))
+information-bounded n = shaped-bounded _ _ (behind-bounded (recurs-bounded n) (present-bounded noAddresses (addresses-bounded (n - 1))))
 
 -- G2 and G3 share the room of 16 addresses; the bits of one more are left, for the G3 that finds none
 lists-size : (g : OptionalAddresses) → recipients .check g ≡ 0 → recipients .size g + (1 + suc (roomBehind g - 1) * 475) ≤ 2 + 17 * 475

@@ -6,19 +6,19 @@ use mathlib.Core.Bool.{Bool, true, false, not}
 use lib.Dec.{lit<, lit≤}
 use native.Mathlib.Omega.{arith}
 use Rattle.codec.specs.Codec.{Codec, number, flag, tested, must, present, optional, viewed, _thenBy_}
-use Rattle.codec.specs.Lists.{listed, cells}
+use Rattle.codec.specs.Lists.{recurs, listed, cells}
 use Rattle.codec.proofs.Lawful.{Lawful}
 use Rattle.codec.proofs.Fields.{number-lawful, flag-lawful}
 use Rattle.codec.proofs.Sequences.{thenBy-lawful, and-lawful, present-lawful, optional-lawful}
 use Rattle.codec.proofs.Views.{shaped-lawful, must-lawful, closedBy-lawful}
-use Rattle.codec.proofs.ListLaws.{listed-lawful, listed-keeps, listed-length, cells-lawful}
+use Rattle.codec.proofs.ListLaws.{recurs-lawful, recurs-norm, listed-lawful, listed-keeps, listed-length, cells-lawful}
 use Rattle.optional.specs.Optionals.{optionalNumber}
 use Rattle.optional.specs.declared.OptionalNumber.{OptionalNumber}
 use Rattle.optional.proofs.Lawful.{optional-number-lawful}
 use Rattle.text.specs.Texts.{noText}
 use Rattle.text.proofs.Lawful.{text-lawful}
 use Rattle.header.specs.Zero.{noAddress, noAddresses, noDtg, noStamp, noIdentity, noRequests, noResponse, noReference, noReferences, noBlock}
-use Rattle.header.specs.Table.{maybe, optionalText, unitName, address, addresses, originator, recipients, roomBehind, roomBit, information, front, date, time, dtg, stamp, identity, optionalIdentity, format, codes, handling, optionalStamp, optionalDtg, requests, optionalRequests, times, compliance, response, optionalResponse, reference, references, optionalReferences, block, blocks, wire}
+use Rattle.header.specs.Table.{maybe, optionalText, unitName, address, addresses, originator, recipients, roomBehind, information, front, date, time, dtg, stamp, identity, optionalIdentity, format, codes, handling, optionalStamp, optionalDtg, requests, optionalRequests, times, compliance, response, optionalResponse, reference, references, optionalReferences, block, blocks, wire}
 use Rattle.header.specs.declared.OptionalAddresses.{OptionalAddresses}
 
 -- a number below the limit of its width
@@ -63,22 +63,12 @@ recipients-lawful : Lawful recipients
 unfolding recipients
 recipients-lawful = shaped-lawful _ _ (optional-lawful noAddresses (addresses-lawful 15 (lit< tt))) (λ x. refl)
 
-room-bit-lawful : (n : ℕ) → Lawful (roomBit n)
-unfolding roomBit
-room-bit-lawful zero = must-lawful false 5 (lit< tt)
-room-bit-lawful (suc n) = flag-lawful
-
-pub room-bit-norm : (n : ℕ) (b : Bool) → roomBit n .norm b ≡ b
-unfolding roomBit tested flag
-room-bit-norm zero b = refl
-room-bit-norm (suc n) b = refl
-
 information-lawful : (n : ℕ) → n ≤ 16 → Lawful (information n)
 unfolding information
 information-lawful n h =
     shaped-lawful _ _
-    (thenBy-lawful (roomBit n) _ (room-bit-lawful n) (present-lawful noAddresses (addresses-lawful (n - 1) (omega arith)))
-    (λ b l. ap (present noAddresses (addresses (n - 1))) (room-bit-norm n b)))
+    (thenBy-lawful (recurs n) _ (recurs-lawful n) (present-lawful noAddresses (addresses-lawful (n - 1) (omega arith)))
+    (λ b l. ap (present noAddresses (addresses (n - 1))) (recurs-norm n b)))
     (λ x. refl)
 
 -- the room behind G2 does not depend on unused cells

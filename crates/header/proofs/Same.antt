@@ -4,18 +4,18 @@ use mathlib.Core.Path.{_≡_, refl, ap, sym, _∙_}
 use mathlib.Core.Bool.{Bool, true, false, not}
 use Rattle.codec.specs.Codec.{number, flag, tested, must, viewed, present, _thenBy_}
 use Rattle.codec.specs.Characters.{characters}
-use Rattle.codec.specs.Lists.{some, listed, cells}
-use Rattle.codec.proofs.ListLaws.{listed-keeps}
+use Rattle.codec.specs.Lists.{recurs, some, listed, cells}
+use Rattle.codec.proofs.ListLaws.{recurs-norm, listed-keeps}
 use Rattle.codec.proofs.Agrees.{Agrees, exact-agrees, number-agrees, characters-agrees, thenBy-agrees, and-agrees, present-agrees, optional-agrees, shaped-agrees, tested-agrees, closedBy-agrees, listed-agrees, cells-agrees}
 use Rattle.optional.specs.Optionals.{optionalNumber}
 use Rattle.text.specs.Texts.{text, noText}
 use Rattle.header.specs.Zero.{noAddress, noAddresses, noDtg, noStamp, noIdentity, noRequests, noResponse, noReference, noReferences, noBlock}
-use Rattle.header.specs.Table.{maybe, optionalText, unitName, address, addresses, originator, recipients, roomBehind, roomBit, information, front, date, time, dtg, stamp, identity, optionalIdentity, format, codes, handling, optionalStamp, optionalDtg, requests, optionalRequests, times, compliance, response, optionalResponse, reference, references, optionalReferences, block, blocks}
+use Rattle.header.specs.Table.{maybe, optionalText, unitName, address, addresses, originator, recipients, roomBehind, information, front, date, time, dtg, stamp, identity, optionalIdentity, format, codes, handling, optionalStamp, optionalDtg, requests, optionalRequests, times, compliance, response, optionalResponse, reference, references, optionalReferences, block, blocks}
 use Rattle.header.specs.Same.{sameNumber, sameText, sameOptionalText, sameAddress, sameAddresses, sameOptionalAddress, sameOptionalAddresses, sameFront, sameOptionalDtg, sameStamp, sameOptionalStamp, sameIdentity, sameOptionalIdentity, sameFormat, sameHandling, sameOptionalRequests, sameTimes, sameCompliance, sameResponse, sameOptionalResponse, sameReference, sameReferences, sameOptionalReferences, sameBlock, sameBlocks, Same, headerNorm}
 use Rattle.header.specs.declared.Addresses.{Addresses}
 use Rattle.header.specs.declared.OptionalAddresses.{OptionalAddresses}
 use Rattle.header.specs.declared.Header.{Header}
-use Rattle.header.proofs.Lawful.{address-lawful, reference-lawful, block-lawful, room-bit-norm}
+use Rattle.header.proofs.Lawful.{address-lawful, reference-lawful, block-lawful}
 
 may : (w lo hi : ℕ) → Agrees (maybe w lo hi) sameNumber
 unfolding optionalNumber sameNumber
@@ -52,7 +52,7 @@ recipients-agrees = shaped-agrees _ _ (optional-agrees noAddresses (addresses-ag
 
 information-agrees : (n : ℕ) → Agrees (information n) sameOptionalAddresses
 unfolding information sameOptionalAddresses
-information-agrees n = shaped-agrees _ _ (present-agrees noAddresses (roomBit n) (room-bit-norm n) (addresses-agrees (n - 1))) (λ x. refl)
+information-agrees n = shaped-agrees _ _ (present-agrees noAddresses (recurs n) (recurs-norm n) (addresses-agrees (n - 1))) (λ x. refl)
 
 -- the normal form of G3 does not depend on its room
 addresses-norm : (n : ℕ) (y : Addresses) → addresses n .norm y ≡ addresses 0 .norm y
@@ -61,8 +61,8 @@ addresses-norm zero y = refl
 addresses-norm (suc n) y = refl
 
 information-norm : (n : ℕ) (y : OptionalAddresses) → information n .norm y ≡ information 0 .norm y
-unfolding information viewed _thenBy_ present roomBit tested flag
-information-norm n y = λ i. record { present = room-bit-norm n (y .present) i; addresses = go (y .present) (y .addresses) i }
+unfolding information viewed _thenBy_ present recurs tested flag
+information-norm n y = λ i. record { present = recurs-norm n (y .present) i; addresses = go (y .present) (y .addresses) i }
   where
     go : (b : Bool) (a : Addresses) → present noAddresses (addresses (n - 1)) b .norm a ≡ present noAddresses (addresses 0) b .norm a
     go true a = addresses-norm (n - 1) a

@@ -1,9 +1,9 @@
 -- Table I, as one codec: every field in the table's order, `optional` for a presence bit and what follows it.
-use Prim.Native.Nat.{ℕ, zero, suc, _-_}
-use mathlib.Core.Bool.{Bool, false, not}
+use Prim.Native.Nat.{ℕ, suc, _-_}
+use mathlib.Core.Bool.{Bool, not}
 use Rattle.codec.specs.Answer.{pick}
 use Rattle.codec.specs.Codec.{Codec, number, flag, must, optional, present, shaped, _&_, _thenBy_, _closedBy_}
-use Rattle.codec.specs.Lists.{listed, cells}
+use Rattle.codec.specs.Lists.{recurs, listed, cells}
 use Rattle.optional.specs.declared.OptionalNumber.{OptionalNumber}
 use Rattle.optional.specs.Optionals.{optionalNumber}
 use Rattle.text.specs.Texts.{text, noText}
@@ -74,14 +74,9 @@ recipients = shaped (λ x. record { present = x .0; addresses = x .1 }) (λ y. (
 abbrev pub roomBehind : OptionalAddresses → ℕ
 roomBehind g = 16 - pick (g .present) (g .addresses .count) 0
 
--- a presence bit that has to be 0 where there is no room
-unfoldable pub roomBit : ℕ → Codec Bool
-roomBit zero = must false 5
-roomBit (suc n) = flag
-
--- [G3 information addressees], n at most
+-- [G3 information addressees], n at most; its presence bit asks for one more, as a recurrence bit does, and without room it has to be 0
 unfoldable pub information : ℕ → Codec OptionalAddresses
-information n = shaped (λ x. record { present = x .0; addresses = x .1 }) (λ y. (y .present, y .addresses)) (roomBit n thenBy present noAddresses (addresses (n - 1)))
+information n = shaped (λ x. record { present = x .0; addresses = x .1 }) (λ y. (y .present, y .addresses)) (recurs n thenBy present noAddresses (addresses (n - 1)))
 
 -- version 4; [compression 2]; [G1]; [G2]; [G3]
 unfoldable pub front : Codec Front

@@ -1,12 +1,12 @@
 // The originator, the recipients and the information addressees, and all fields up to their end.
 ghost use mathlib.Core.Path.{_≡_};
-ghost use Prim.Native.Nat.{_-_, _≤_};
+ghost use Prim.Native.Nat.{_≤_};
 ghost use lib.ListN.{length};
 ghost use Rattle.bits.specs.Bits.{bitsOf};
 ghost use Rattle.bits.specs.Units.{datagramLimit};
 ghost use Rattle.codec.specs.Codec.{number, _&_, _thenBy_};
-ghost use Rattle.codec.specs.Refusals.{answer, flagAnswer};
-ghost use Rattle.header.specs.Table.{maybe, originator, recipients, roomBehind, roomBit, information, front};
+ghost use Rattle.codec.specs.Refusals.{answer};
+ghost use Rattle.header.specs.Table.{maybe, originator, recipients, roomBehind, information, front};
 use crate::address::read_address;
 use crate::address::read_addresses;
 use bits::BitPlace;
@@ -15,7 +15,7 @@ use codec::Flag;
 use codec::Number;
 use codec::Step;
 use flag::read_flag;
-use flag::read_must;
+use flag::read_recurs;
 use header::Front;
 use header::OptionalAddress;
 use header::OptionalAddresses;
@@ -153,25 +153,14 @@ pub fn read_recipients(s: &[u8], at: BitPlace) -> AddresseesRead
     }
 }
 
-// A presence bit that has to be 0 where there is no room.
-fn read_room_bit(s: &[u8], at: BitPlace, room: usize) -> Flag
-    requires { ⌜ length (now s) ≤ datagramLimit ⌝ }
-    ensures { λ r. ⌜ flagAnswer r ≡ roomBit room .read (bitsOf (now (s .entry))) (at .0) ⌝ }
-{
-    if room == 0 {
-        return read_must(s, at, false, Fault::Count);
-    }
-    read_flag(s, at)
-}
-
-// G3, with room for so many.
+// G3, with room for so many. Its presence bit asks for one more, as a recurrence bit does.
 pub fn read_information(s: &[u8], at: BitPlace, room: usize) -> AddresseesRead
     requires { ⌜ (length (now s) ≤ datagramLimit) × (room ≤ 16) ⌝ }
     ensures { λ r. ⌜ answer (r .step) (r .addressees) ≡ information room .read (bitsOf (now (s .entry))) (at .0) ⌝ }
 {
     let none = no_addresses();
     let left = one_less(room);
-    let a = read_room_bit(s, at, room);
+    let a = read_recurs(s, at, room);
     let Flag::Got(present, at) = a else {
         return AddresseesRead {
             step: a.step(),

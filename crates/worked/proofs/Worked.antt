@@ -8,12 +8,12 @@ use Rattle.codec.specs.Lists.{recurs, listed, cells}
 use Rattle.optional.specs.Optionals.{optionalNumber}
 use Rattle.text.specs.Texts.{text}
 use Rattle.header.specs.Zero.{noNumber, noOptionalText, noAddress, noAddresses, noDtg, noStamp, noIdentity, noFormat, noHandling, noRequests, noTimes, noResponse, noReference, noReferences, noBlock}
-use Rattle.header.specs.Table.{optionalText, unitName, address, addresses, originator, recipients, roomBit, information, front, date, time, dtg, stamp, identity, optionalIdentity, format, codes, handling, optionalStamp, optionalDtg, requests, optionalRequests, times, compliance, response, optionalResponse, reference, references, optionalReferences, block, blocks, wire}
+use Rattle.header.specs.Table.{optionalText, unitName, address, addresses, originator, recipients, information, front, date, time, dtg, stamp, identity, optionalIdentity, format, codes, handling, optionalStamp, optionalDtg, requests, optionalRequests, times, compliance, response, optionalResponse, reference, references, optionalReferences, block, blocks, wire}
 use Rattle.header.specs.Rules.{ruleA, ruleB, ruleC, ruleD, ruleE, ruleF, ruleG, ruleH, ruleI, all, rulesKept}
 use Rattle.header.specs.Sizes.{shares, total, sizesRight}
 use Rattle.reader.specs.Reading.{readFill, settled, filled, judged, reading, behindHeader}
 use Rattle.worked.specs.Cases.{AllHold, cases}
 
 pub worked : AllHold cases
-unfolding cases lowBits value bitsOf next readNumber number flag nothing _thenBy_ present viewed tested _closedBy_ readCharacters characters recurs listed cells optionalNumber text noNumber noOptionalText noAddress noAddresses noDtg noStamp noIdentity noFormat noHandling noRequests noTimes noResponse noReference noReferences noBlock optionalText unitName address addresses originator recipients roomBit information front date time dtg stamp identity optionalIdentity format codes handling optionalStamp optionalDtg requests optionalRequests times compliance response optionalResponse reference references optionalReferences block blocks wire ruleA ruleB ruleC ruleD ruleE ruleF ruleG ruleH ruleI all rulesKept shares total sizesRight readFill settled filled judged reading behindHeader
+unfolding cases lowBits value bitsOf next readNumber number flag nothing _thenBy_ present viewed tested _closedBy_ readCharacters characters recurs listed cells optionalNumber text noNumber noOptionalText noAddress noAddresses noDtg noStamp noIdentity noFormat noHandling noRequests noTimes noResponse noReference noReferences noBlock optionalText unitName address addresses originator recipients information front date time dtg stamp identity optionalIdentity format codes handling optionalStamp optionalDtg requests optionalRequests times compliance response optionalResponse reference references optionalReferences block blocks wire ruleA ruleB ruleC ruleD ruleE ruleF ruleG ruleH ruleI all rulesKept shares total sizesRight readFill settled filled judged reading behindHeader
 worked = ((refl, refl), ((refl, refl), ((refl, refl), ((refl, refl), ((refl, refl), ((refl, refl), ((refl, refl), ((refl, refl), tt))))))))

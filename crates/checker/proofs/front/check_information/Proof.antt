@@ -5,24 +5,25 @@ use mathlib.Core.Path.{_≡_, refl}
 use mathlib.Core.Bool.{Bool, true, false}
 use native.Mathlib.Omega.{arith}
 use Rattle.codec.specs.Codec.{first, flag, nothing, present, tested, viewed, _thenBy_}
+use Rattle.codec.specs.Lists.{recurs}
 use Rattle.codec.specs.Refusals.{checkNo}
-use Rattle.header.specs.Table.{information, roomBit, addresses}
+use Rattle.header.specs.Table.{information, addresses}
 use Rattle.header.specs.declared.OptionalAddresses.{OptionalAddresses}
 use Rattle.checker.proofs.front.check_information.Statement.{statement}
 use Rattle.checker.proofs.front.check_information.Tie as tie
 
 none-left : (n : ℕ) (x : OptionalAddresses) → x .present ≡ true → n ≡ 0 → 5 ≡ information n .check x
-unfolding information viewed _thenBy_ roomBit tested flag first
+unfolding information viewed _thenBy_ recurs tested flag first
 none-left zero x e z = rw e
 none-left (suc n) x e z = absurd (omega arith)
 
 some-left : (n r : ℕ) (x : OptionalAddresses) → x .present ≡ true → (n ≡ 0 → ⊥) → r ≡ addresses (n - 1) .check (x .addresses) → r ≡ information n .check x
-unfolding information viewed _thenBy_ roomBit tested flag first present
+unfolding information viewed _thenBy_ recurs tested flag first present
 some-left zero r x e z h = absurd (z refl)
 some-left (suc n) r x e z h = rw e h
 
 absent : (n : ℕ) (x : OptionalAddresses) → x .present ≡ false → 0 ≡ information n .check x
-unfolding information viewed _thenBy_ roomBit tested flag first present nothing
+unfolding information viewed _thenBy_ recurs tested flag first present nothing
 absent zero x e = rw e
 absent (suc n) x e = rw e
 
