@@ -11,3 +11,4 @@ pub mod ListLoops
 pub mod Bounds
 pub mod Agrees
 pub mod ListChecks
+pub mod ListEnds

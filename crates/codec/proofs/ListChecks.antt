@@ -19,7 +19,7 @@ use Rattle.codec.proofs.Check as check
 use Rattle.codec.proofs.Told.{fault-positive, first-refusal}
 
 -- the first fault of entries
-abbrev faults : {A : Type 0} → Codec A → List A → ℕ
+abbrev pub faults : {A : Type 0} → Codec A → List A → ℕ
 faults c [] = 0
 faults c (y ∷ ys) = first (c .check y) (faults c ys)
 
@@ -35,7 +35,7 @@ bad-on Check.Fine n t = absurd (omega arith)
 bad-on (Check.Bad f) n t = first-refusal (faultNo f) n (fault-positive f)
 
 module _ {A : Type 0} (z : A) (c : Codec A) where
-  entries-checked : (left : ℕ) (xs : List A) → 0 < length xs → length xs ≤ suc left → listed z c left .check xs ≡ faults c xs
+  pub entries-checked : (left : ℕ) (xs : List A) → 0 < length xs → length xs ≤ suc left → listed z c left .check xs ≡ faults c xs
   unfolding listed viewed _thenBy_ present nothing recurs tested flag first
   entries-checked left [] h k = absurd (omega arith)
   entries-checked zero (y ∷ []) h k = refl
@@ -43,7 +43,7 @@ module _ {A : Type 0} (z : A) (c : Codec A) where
   entries-checked (suc left) (y ∷ []) h k = refl
   entries-checked (suc left) (y ∷ x ∷ xs) h k = ap (first (c .check y)) (entries-checked left (x ∷ xs) (omega arith) (omega arith))
 
-  none-checked : (left : ℕ) → listed z c left .check [] ≡ 5
+  pub none-checked : (left : ℕ) → listed z c left .check [] ≡ 5
   unfolding listed viewed
   none-checked zero = refl
   none-checked (suc left) = refl
