@@ -82,8 +82,12 @@ module _ {A : Type 0} (z : A) (c : Codec A) where
           here : sizes c (drop i (take k l)) ≡ 1 + c .size (getD l i d) + sizes c (drop (i + 1) (take k l))
           here = ap (sizes c) (drop-cons (take k l) i d (omega (arith, used))) ∙ rw (add-one, getD-take k l i d h)
 
-          pub ending-room : q + (1 + c .size (getD l i d)) ≤ p + cells z room (suc left) 5 (listed z c left) .size (l, k)
-          ending-room = omega (arith, w .place, here)
+          -- there is a place for the recurrence bit, and for the entry behind it
+          pub ending-flag : (limit : ℕ) → p + cells z room (suc left) 5 (listed z c left) .size (l, k) ≤ limit → q + 1 ≤ limit
+          ending-flag limit m = omega (arith, w .place, here)
 
-          pub ending-more : (r : ℕ) → r ≡ q + 1 + c .size (getD l i d) → Ending room left l k p (i + 1) r
-          ending-more r e = record { within = omega arith; place = omega (arith, w .place, here) }
+          pub ending-entry : (limit b : ℕ) → b ≡ q + 1 → p + cells z room (suc left) 5 (listed z c left) .size (l, k) ≤ limit → b + c .size (getD l i d) ≤ limit
+          ending-entry limit b e m = omega (arith, w .place, here)
+
+          pub ending-more : (b r : ℕ) → b ≡ q + 1 → r ≡ b + c .size (getD l i d) → Ending room left l k p (i + 1) r
+          ending-more b r e f = record { within = omega arith; place = omega (arith, w .place, here) }

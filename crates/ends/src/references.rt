@@ -1,12 +1,14 @@
-// An entry of G9.
+// A block's G9: the messages referred to.
 ghost use mathlib.Core.Path.{_≡_};
 ghost use Prim.Native.Nat.{_+_};
 ghost use Rattle.codec.specs.Writes.{Placed};
-ghost use Rattle.header.specs.Table.{reference};
+ghost use Rattle.header.specs.Table.{reference, references};
 use crate::address::end_address;
 use crate::dtg::end_stamp;
 use bits::BitPlace;
+use flag::end_flag;
 use header::Reference;
+use header::References;
 
 pub fn end_reference(at: BitPlace, x: Reference) -> BitPlace
     requires { ⌜ Placed (at .0) (reference .size x) ⌝ }
@@ -14,4 +16,22 @@ pub fn end_reference(at: BitPlace, x: Reference) -> BitPlace
 {
     let at = end_address(at, x.address);
     end_stamp(at, x.stamp)
+}
+
+// A legal list of references.
+pub fn end_references(at: BitPlace, x: References) -> BitPlace
+    requires { ⌜ Placed (at .0) (references .size x) × (references .check x ≡ 0) ⌝ }
+    ensures { λ r. ⌜ r .0 ≡ at .0 + references .size x ⌝ }
+{
+    let list = x.list;
+    let count = x.count as usize;
+    let mut place = at;
+    let mut i: usize = 0;
+    while i < count {
+        let entry = list[i];
+        let behind = end_flag(place);
+        place = end_reference(behind, entry);
+        i += 1;
+    }
+    place
 }
