@@ -1,5 +1,6 @@
 // Where the groups of a record end when they are written at a place.
 pub mod address;
+pub mod block;
 pub mod dtg;
 pub mod format;
 pub mod handling;

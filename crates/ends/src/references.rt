@@ -2,11 +2,12 @@
 ghost use mathlib.Core.Path.{_≡_};
 ghost use Prim.Native.Nat.{_+_};
 ghost use Rattle.codec.specs.Writes.{Placed};
-ghost use Rattle.header.specs.Table.{reference, references};
+ghost use Rattle.header.specs.Table.{reference, references, optionalReferences};
 use crate::address::end_address;
 use crate::dtg::end_stamp;
 use bits::BitPlace;
 use flag::end_flag;
+use header::OptionalReferences;
 use header::Reference;
 use header::References;
 
@@ -34,4 +35,17 @@ pub fn end_references(at: BitPlace, x: References) -> BitPlace
         i += 1;
     }
     place
+}
+
+// G9, legal.
+pub fn end_optional_references(at: BitPlace, x: OptionalReferences) -> BitPlace
+    requires { ⌜ Placed (at .0) (optionalReferences .size x) × (optionalReferences .check x ≡ 0) ⌝ }
+    ensures { λ r. ⌜ r .0 ≡ at .0 + optionalReferences .size x ⌝ }
+{
+    let present = x.present;
+    let behind = end_flag(at);
+    if present {
+        return end_references(behind, x.references);
+    }
+    behind
 }
