@@ -6,7 +6,7 @@ use mathlib.Core.List.{List, [], _∷_}
 use lib.ListN.{length, take, drop, getD, length-take, drop-of-length-le}
 use lib.Seq.{drop-cons, getD-take}
 use lib.Dec.{leb, eqb, lit<}
-use borrow.Author.Tests.{eqb-true, leb-true}
+use borrow.Author.Tests.{eqb-true, leb-true, eq-eqb, le-leb}
 use native.Mathlib.Numerals.{add-one}
 use native.Mathlib.Omega.{arith}
 use Rattle.codec.specs.Codec.{Codec, flag, nothing, present, tested, viewed, _thenBy_}
@@ -91,3 +91,23 @@ module _ {A : Type 0} (z : A) (c : Codec A) where
 
           pub ending-more : (b r : ℕ) → b ≡ q + 1 → r ≡ b + c .size (getD l i d) → Ending room left l k p (i + 1) r
           ending-more b r e f = record { within = omega arith; place = omega (arith, w .place, here) }
+
+-- a list that is legal with room for fewer is legal with room for more, and as long
+module _ {A : Type 0} (z : A) (c : Codec A) (room few left : ℕ) (l : List A) (k : ℕ) (legal : cells z room (suc few) 5 (listed z c few) .check (l, k) ≡ 0) (le : few ≤ left) (fits : suc left ≤ room) where
+  in-few : length (take k l) ≤ suc few
+  in-few = rw length-take (omega (arith, count-most z c room few l k legal))
+
+  not-none : 0 < length (take k l)
+  not-none = rw length-take (omega (arith, count-some z c room few l k legal, whole-array z c room few l k legal))
+
+  pub wider-legal : cells z room (suc left) 5 (listed z c left) .check (l, k) ≡ 0
+  unfolding cells viewed
+  wider-legal =
+      rw (eq-eqb (length l) room (whole-array z c room few l k legal), le-leb k (suc left) (omega (arith, count-most z c room few l k legal)))
+      (entries-checked z c left (take k l) not-none (omega (arith, in-few))
+      ∙ sym (entries-checked z c few (take k l) not-none in-few)
+      ∙ fine-list z c room few l k legal .1)
+
+  pub wider-size : cells z room (suc few) 5 (listed z c few) .size (l, k) ≡ cells z room (suc left) 5 (listed z c left) .size (l, k)
+  unfolding cells viewed
+  wider-size = entries-sized z c few (take k l) not-none in-few ∙ sym (entries-sized z c left (take k l) not-none (omega (arith, in-few)))

@@ -3,6 +3,7 @@ pub mod address;
 pub mod block;
 pub mod dtg;
 pub mod format;
+pub mod front;
 pub mod handling;
 pub mod references;
 pub mod response;

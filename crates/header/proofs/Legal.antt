@@ -1,11 +1,18 @@
 -- A legal group's parts are legal. Assumes nothing.
-use Prim.Native.Nat.{ℕ}
-use mathlib.Core.Path.{_≡_}
-use mathlib.Core.Bool.{Bool, true}
-use Rattle.codec.specs.Codec.{Codec, first, flag, tested, present, viewed, _thenBy_, _closedBy_}
+use Prim.Native.Nat.{ℕ, zero, suc, _+_, _-_, _≤_}
+use mathlib.Core.Path.{_≡_, refl, ap₂}
+use mathlib.Core.Bool.{Bool, true, false}
+use lib.Dec.{lit≤}
+use native.Mathlib.Omega.{arith}
+use Rattle.codec.specs.Codec.{Codec, first, flag, number, nothing, tested, present, viewed, _thenBy_, _closedBy_}
+use Rattle.codec.specs.Lists.{recurs}
 use Rattle.codec.proofs.Sequences.{first-zero}
-use Rattle.header.specs.Zero.{noReferences}
-use Rattle.header.specs.Table.{format, handling, times, optionalResponse, references, optionalReferences, block}
+use Rattle.codec.proofs.ListEnds.{wider-legal, wider-size}
+use Rattle.header.specs.Zero.{noAddress, noAddresses, noReferences}
+use Rattle.header.specs.Table.{maybe, address, addresses, originator, recipients, roomBehind, information, front, format, handling, times, optionalResponse, references, optionalReferences, block}
+use Rattle.header.specs.declared.Addresses.{Addresses}
+use Rattle.header.specs.declared.OptionalAddresses.{OptionalAddresses}
+use Rattle.header.specs.declared.Front.{Front}
 use Rattle.header.specs.declared.OptionalReferences.{OptionalReferences}
 use Rattle.header.specs.declared.Block.{Block}
 
@@ -24,3 +31,42 @@ block-references x h =
     let a = first-zero (first (format .check (x .format)) (first (handling .check (x .handling)) (times .check (x .times)))) _ h in
     let b = first-zero (optionalResponse .check (x .response)) _ (a .1) in
     first-zero (optionalReferences .check (x .references)) _ (b .1) .0
+
+pub addressees-legal : (x : OptionalAddresses) → x .present ≡ true → recipients .check x ≡ 0 → addresses 15 .check (x .addresses) ≡ 0
+unfolding recipients viewed _thenBy_ flag first
+addressees-legal x e h = present-legal noAddresses (addresses 15) (x .present) (x .addresses) e h
+
+-- legal information addressees are legal, and as long, as recipients are
+module _ (n : ℕ) (le : n ≤ 16) where
+  wider : (y : Addresses) → addresses (n - 1) .check y ≡ 0 → (addresses 15 .check y ≡ 0) × (addresses (n - 1) .size y ≡ addresses 15 .size y)
+  unfolding addresses viewed
+  wider y h = (
+    wider-legal noAddress address 16 (n - 1) 15 (y .list) (y .count) h (omega arith) (lit≤ tt),
+    wider-size noAddress address 16 (n - 1) 15 (y .list) (y .count) h (omega arith) (lit≤ tt),
+  )
+
+  bit-size : (m : ℕ) (b : Bool) → recurs m .size b ≡ 1
+  unfolding recurs tested flag
+  bit-size zero b = refl
+  bit-size (suc m) b = refl
+
+  go : (b : Bool) (y : Addresses) → present noAddresses (addresses (n - 1)) b .check y ≡ 0 → (present noAddresses (addresses 15) b .check y ≡ 0) × (present noAddresses (addresses (n - 1)) b .size y ≡ present noAddresses (addresses 15) b .size y)
+  unfolding present nothing
+  go true y h = wider y h
+  go false y h = (refl, refl)
+
+  pub information-legal : (x : OptionalAddresses) → information n .check x ≡ 0 → recipients .check x ≡ 0
+  unfolding information recipients viewed _thenBy_ flag first
+  information-legal x h = go (x .present) (x .addresses) (first-zero (recurs n .check (x .present)) _ h .1) .0
+
+  pub information-size : (x : OptionalAddresses) → information n .check x ≡ 0 → information n .size x ≡ recipients .size x
+  unfolding information recipients viewed _thenBy_ flag
+  information-size x h = ap₂ _+_ (bit-size n (x .present)) (go (x .present) (x .addresses) (first-zero (recurs n .check (x .present)) _ h .1) .1)
+
+pub front-recipients : (x : Front) → front .check x ≡ 0 → recipients .check (x .recipients) ≡ 0
+unfolding front viewed _thenBy_
+front-recipients x h = first-zero (recipients .check (x .recipients)) _ (first-zero (first (number 4 2 2 2 .check (x .version)) (first (maybe 2 0 1 .check (x .compression)) (originator .check (x .originator)))) _ h .1) .0
+
+pub front-information : (x : Front) → front .check x ≡ 0 → information (roomBehind (x .recipients)) .check (x .information) ≡ 0
+unfolding front viewed _thenBy_
+front-information x h = first-zero (recipients .check (x .recipients)) _ (first-zero (first (number 4 2 2 2 .check (x .version)) (first (maybe 2 0 1 .check (x .compression)) (originator .check (x .originator)))) _ h .1) .1
