@@ -1,0 +1,2 @@
+// Writing the fields up to the end of G3, group by group.
+pub mod address;
