@@ -12,3 +12,4 @@ pub mod Bounds
 pub mod Agrees
 pub mod ListChecks
 pub mod ListEnds
+pub mod ListWrites
