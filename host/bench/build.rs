@@ -2,7 +2,8 @@
 use std::path::PathBuf;
 
 fn main() {
-    let folder = PathBuf::from(env!("CARGO_MANIFEST_DIR")).join("../../target/staticlib");
+    let here = std::env::var("CARGO_MANIFEST_DIR").expect("cargo sets it");
+    let folder = PathBuf::from(here).join("../../target/staticlib");
     println!("cargo:rustc-link-search=native={}", folder.display());
     println!("cargo:rustc-link-lib=static=field_bench");
     println!("cargo:rerun-if-changed={}", folder.join("libfield_bench.a").display());
