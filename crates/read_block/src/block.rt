@@ -115,20 +115,22 @@ fn read_tail(s: &[u8], at: BitPlace) -> TailRead
     requires { ⌜ length (now s) ≤ datagramLimit ⌝ }
     ensures { λ r. ⌜ answer (r .step) (r .response, r .references) ≡ (optionalResponse & (optionalReferences closedBy 7)) .read (bitsOf (now (s .entry))) (at .0) ⌝ }
 {
+    let unanswered = OptionalResponse {
+        present: false,
+        response: no_response(),
+    };
+    let unreferred = OptionalReferences {
+        present: false,
+        references: no_references(),
+    };
     let a = read_optional_response(s, at);
     let response = a.response;
     let step = a.step;
     let Step::Next(at) = step else {
         return TailRead {
             step: step,
-            response: OptionalResponse {
-                present: false,
-                response: no_response(),
-            },
-            references: OptionalReferences {
-                present: false,
-                references: no_references(),
-            },
+            response: unanswered,
+            references: unreferred,
         };
     };
     let a = read_optional_references(s, at);
@@ -137,28 +139,16 @@ fn read_tail(s: &[u8], at: BitPlace) -> TailRead
     let Step::Next(at) = step else {
         return TailRead {
             step: step,
-            response: OptionalResponse {
-                present: false,
-                response: no_response(),
-            },
-            references: OptionalReferences {
-                present: false,
-                references: no_references(),
-            },
+            response: unanswered,
+            references: unreferred,
         };
     };
     let step = read_zero(s, at, Fault::Security);
     let Step::Next(at) = step else {
         return TailRead {
             step: step,
-            response: OptionalResponse {
-                present: false,
-                response: no_response(),
-            },
-            references: OptionalReferences {
-                present: false,
-                references: no_references(),
-            },
+            response: unanswered,
+            references: unreferred,
         };
     };
     TailRead {

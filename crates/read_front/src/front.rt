@@ -204,16 +204,17 @@ fn read_origin(s: &[u8], at: BitPlace) -> OriginRead
     requires { ⌜ length (now s) ≤ datagramLimit ⌝ }
     ensures { λ r. ⌜ answer (r .step) (r .version, (r .compression, r .originator)) ≡ (number 4 2 2 2 & maybe 2 0 1 & originator) .read (bitsOf (now (s .entry))) (at .0) ⌝ }
 {
+    let none = OptionalAddress {
+        present: false,
+        address: no_address(),
+    };
     let a = read_number(s, at, VERSION, Fault::Version);
     let Number::Got(version, at) = a else {
         return OriginRead {
             step: a.step(),
             version: 0,
             compression: NO_NUMBER,
-            originator: OptionalAddress {
-                present: false,
-                address: no_address(),
-            },
+            originator: none,
         };
     };
     let a = read_optional(s, at, COMPRESSION);
@@ -224,10 +225,7 @@ fn read_origin(s: &[u8], at: BitPlace) -> OriginRead
             step: step,
             version: 0,
             compression: NO_NUMBER,
-            originator: OptionalAddress {
-                present: false,
-                address: no_address(),
-            },
+            originator: none,
         };
     };
     let a = read_originator(s, at);
@@ -238,10 +236,7 @@ fn read_origin(s: &[u8], at: BitPlace) -> OriginRead
             step: step,
             version: 0,
             compression: NO_NUMBER,
-            originator: OptionalAddress {
-                present: false,
-                address: no_address(),
-            },
+            originator: none,
         };
     };
     OriginRead {

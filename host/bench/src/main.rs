@@ -1,6 +1,7 @@
 //! Field functions, proved against plain: same run, same inputs, release builds. The buffers are
 //! filled once with random octets and are not cleared between runs.
 
+mod fits;
 mod plain;
 mod proved;
 

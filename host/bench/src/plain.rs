@@ -1,8 +1,6 @@
 //! The same fragment algorithm in Rust, every index checked, behind the same test.
 
-fn fits(octets: usize, at: usize, w: usize) -> bool {
-    w <= 24 && at.checked_add(w).is_some_and(|end| end <= octets.saturating_mul(8))
-}
+use crate::fits::fits;
 
 #[inline(never)]
 pub fn read(s: &[u8], at: usize, w: usize) -> u32 {

@@ -1,14 +1,12 @@
 //! The proved field functions behind safe wrappers, which test what the contracts require.
 
+use crate::fits::fits;
+
 mod ffi {
     extern "C" {
         pub fn field_bench_read(s: *const u8, len: usize, at: usize, w: usize) -> u32;
         pub fn field_bench_write(out: *mut u8, len: usize, at: usize, w: usize, v: u32);
     }
-}
-
-fn fits(octets: usize, at: usize, w: usize) -> bool {
-    w <= 24 && at.checked_add(w).is_some_and(|end| end <= octets.saturating_mul(8))
 }
 
 #[inline(never)]

@@ -22,10 +22,10 @@ returns-2 c = search (
   number-stop,
   flag-stop,
   group-stop,
-  c .before .before .before .match2 .keys2,
-  c .before .before .before .before .before .read-optional-references .ensures,
-  c .before .before .before .before .before .before .before .step .given .1,
-  c .before .before .before .before .before .before .before .before .before .before .read-optional-response .ensures,
+  c .before .match2 .keys2,
+  c .before .before .before .read-optional-references .ensures,
+  c .before .before .before .before .before .step .given .1,
+  c .before .before .before .before .before .before .before .before .read-optional-response .ensures,
 )
     depth 14 fits 6000
 
@@ -41,12 +41,12 @@ returns-3 c = search (
   number-stop,
   flag-stop,
   group-stop,
-  c .before .before .before .match3 .keys2,
-  c .before .before .before .before .read-zero .ensures,
-  c .before .before .before .before .before .before .step2 .given .1,
-  c .before .before .before .before .before .before .before .before .before .read-optional-references .ensures,
-  c .before .before .before .before .before .before .before .before .before .before .before .step .given .1,
-  c .before .before .before .before .before .before .before .before .before .before .before .before .before .before .read-optional-response .ensures,
+  c .before .match3 .keys2,
+  c .before .before .read-zero .ensures,
+  c .before .before .before .before .step2 .given .1,
+  c .before .before .before .before .before .before .before .read-optional-references .ensures,
+  c .before .before .before .before .before .before .before .before .before .step .given .1,
+  c .before .before .before .before .before .before .before .before .before .before .before .before .read-optional-response .ensures,
 )
     depth 14 fits 6000
 
@@ -72,4 +72,4 @@ returns-4 c = search (
     depth 14 fits 6000
 
 pub read-tail-spec : {M : Type 1} → statement M
-read-tail-spec = tie.close (tie.spec (λ c κs. search needs) (λ c. search needs) (λ c. search needs) (λ c κs. search needs) (λ c κs. search needs) returns (λ c κs. search needs) (λ c. search needs) (λ c. search needs) (λ c κs. search needs) (λ c κs. search needs) returns-2 (λ c κs. search needs) (λ c. search needs) (λ c. search needs) (λ c κs. search needs) (λ c κs. search needs) returns-3 returns-4)
+read-tail-spec = tie.close (tie.spec (λ c κs. search needs) (λ c κs. search needs) (λ c κs. search needs) (λ c. search needs) (λ c. search needs) returns (λ c κs. search needs) (λ c. search needs) (λ c. search needs) returns-2 (λ c κs. search needs) (λ c. search needs) (λ c. search needs) returns-3 returns-4)
