@@ -7,3 +7,4 @@ mod Shifts
 mod Steps
 mod ReadStep
 mod WriteStep
+pub mod Packing

@@ -36,3 +36,8 @@ field s at w = value (take w (drop at (bitsOf s)))
 -- a splice: s with the bits bs from place `at` on, and every other bit as it was
 unfoldable pub splice : List Bool → ℕ → List Bool → List Bool
 splice s at bs = take at s ++ (bs ++ drop (at + length bs) s)
+
+-- n octets from bits, eight to each
+unfoldable pub octets : ℕ → List Bool → List ℕ
+octets zero bs = []
+octets (suc n) bs = value (take 8 bs) ∷ octets n (drop 8 bs)

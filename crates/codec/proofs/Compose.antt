@@ -12,7 +12,7 @@ use Rattle.bits.specs.Bits.{bitsOf, splice}
 use Rattle.bits.specs.declared.BitPlace.{BitPlace}
 use Rattle.bits.proofs.Splices.{splice-splice, splice-nil}
 use Rattle.codec.specs.Answer.{Answer, got, refused, next}
-use Rattle.codec.specs.Codec.{Codec, first, nothing, _thenBy_, viewed, present, tested, flag, _closedBy_}
+use Rattle.codec.specs.Codec.{Codec, first, same, must, number, nothing, _thenBy_, viewed, present, tested, flag, _closedBy_}
 use Rattle.codec.specs.Refusals.{faultNo, answer, numberAnswer, flagAnswer, numberStep, flagStep, checkNo}
 use Rattle.codec.specs.Writes.{Writes}
 use Rattle.codec.specs.declared.Fault.{Fault}
@@ -20,8 +20,8 @@ use Rattle.codec.specs.declared.Number.{Number}
 use Rattle.codec.specs.declared.Flag.{Flag}
 use Rattle.codec.specs.declared.Step.{Step}
 use Rattle.codec.specs.declared.Check.{Check}
-use Rattle.codec.proofs.Number as number
-use Rattle.codec.proofs.Flag as flag
+use Rattle.codec.proofs.Number as numbers
+use Rattle.codec.proofs.Flag as flags
 use Rattle.codec.proofs.Step as step
 
 -- the reading of c at p stops, and st says where and why
@@ -59,12 +59,12 @@ module _ (bs : List Bool) (p : ℕ) where
   group-got c st x q e g = record { read = rw g at e }
 
   -- a field that was refused, in the `else` of a `let .. else`
-  pub number-stop : (c : Codec ℕ) (n : Number) (st : Step) → numberAnswer n ≡ c .read bs p → tagOf number.the-type n ≡ 1 → st ≡ numberStep n → Stops c bs p st
+  pub number-stop : (c : Codec ℕ) (n : Number) (st : Step) → numberAnswer n ≡ c .read bs p → tagOf numbers.the-type n ≡ 1 → st ≡ numberStep n → Stops c bs p st
   unfolding numberAnswer numberStep
   number-stop c (Number.Got x q) st e t g = absurd (omega arith)
   number-stop c (Number.Refused f q) st e t g = record { fault = f; place = q; is = g; read = e }
 
-  pub flag-stop : (c : Codec Bool) (n : Flag) (st : Step) → flagAnswer n ≡ c .read bs p → tagOf flag.the-type n ≡ 1 → st ≡ flagStep n → Stops c bs p st
+  pub flag-stop : (c : Codec Bool) (n : Flag) (st : Step) → flagAnswer n ≡ c .read bs p → tagOf flags.the-type n ≡ 1 → st ≡ flagStep n → Stops c bs p st
   unfolding flagAnswer flagStep
   flag-stop c (Flag.Got x q) st e t g = absurd (omega arith)
   flag-stop c (Flag.Refused f q) st e t g = record { fault = f; place = q; is = g; read = e }
@@ -193,6 +193,17 @@ tested-writes test fault c y s t p q e = record { bits = e .bits; ends = e .ends
 -- past a field that has to pass a test
 pub tested-then-writes : {A B : Type 0} (test : A → Bool) (fault : ℕ) (c : Codec A) (d : A → Codec B) (xy : A × B) (s t u : List ℕ) (p q r : ℕ) → Writes c (xy .0) s t p q → Writes (d (xy .0)) (xy .1) t u q r → Writes (tested test fault c thenBy d) xy s u p r
 tested-then-writes test fault c d xy s t u p q r e f = then-writes (tested test fault c) d xy s t u p q r (tested-writes test fault c (xy .0) s t p q e) f
+
+-- the closing bit is 0
+pub closed-writes : {A : Type 0} (c : Codec A) (fault : ℕ) (y : A) (s t u : List ℕ) (p q r : ℕ) → Writes c y s t p q → Writes flag false t u q r → Writes (c closedBy fault) y s u p r
+unfolding _closedBy_
+closed-writes c fault y s t u p q r e f =
+    shape-writes _ _ _ _ _ _ y s u p r (then-writes c (λ x. must false fault) (y, false) s t u p q r e (tested-writes (λ x. same x false) fault flag false t u q r f))
+
+-- a number's bits do not depend on its refusal
+pub number-writes : (w lo hi f g : ℕ) (v : ℕ) (s t : List ℕ) (p q : ℕ) → Writes (number w lo hi f) v s t p q → Writes (number w lo hi g) v s t p q
+unfolding number
+number-writes w lo hi f g v s t p q e = record { bits = e .bits; ends = e .ends; next = e .next }
 
 pub ruleset writing = (then-writes, shape-writes, present-writes, absent-writes, tested-writes, tested-then-writes)
 

@@ -2,7 +2,7 @@
 use Prim.Native.Nat.{ℕ, zero, suc, _+_, _<_, _≤_}
 use mathlib.Core.Path.{_≡_, refl, ap, sym, _∙_}
 use mathlib.Core.Bool.{Bool, true, false, _&&_}
-use mathlib.Core.List.{List, [], _∷_}
+use mathlib.Core.List.{List, [], _∷_, _++_}
 use lib.ListN.{length, take, drop, getD, length-take, drop-of-length-le}
 use lib.Seq.{drop-cons, getD-take}
 use lib.Dec.{leb, eqb, lit<}
@@ -10,7 +10,7 @@ use borrow.Author.Tests.{eqb-true, leb-true, eq-eqb, le-leb}
 use native.Mathlib.Numerals.{add-one}
 use native.Mathlib.Omega.{arith}
 use Rattle.codec.specs.Codec.{Codec, flag, nothing, present, tested, viewed, _thenBy_}
-use Rattle.codec.specs.Lists.{recurs, listed, cells}
+use Rattle.codec.specs.Lists.{some, recurs, listed, cells}
 use Rattle.codec.proofs.Fields.{and-left, and-right}
 use Rattle.codec.proofs.Sequences.{first-zero}
 use Rattle.codec.proofs.ListLaws.{fine-legal}
@@ -20,6 +20,10 @@ use Rattle.codec.proofs.ListChecks.{faults, entries-checked, none-check
 abbrev sizes : {A : Type 0} → Codec A → List A → ℕ
 sizes c [] = 0
 sizes c (y ∷ ys) = 1 + c .size y + sizes c ys
+
+abbrev written : {A : Type 0} → Codec A → List A → List Bool
+written c [] = []
+written c (y ∷ ys) = (some ys ∷ c .write y) ++ written c ys
 
 no-fault : {A : Type 0} (c : Codec A) (xs : List A) (i : ℕ) (d : A) → i < length xs → faults c xs ≡ 0 → c .check (getD xs i d) ≡ 0
 no-fault c [] i d h e = absurd (omega arith)
@@ -34,6 +38,15 @@ module _ {A : Type 0} (z : A) (c : Codec A) where
   entries-sized zero (y ∷ x ∷ xs) h k = absurd (omega arith)
   entries-sized (suc left) (y ∷ []) h k = refl
   entries-sized (suc left) (y ∷ x ∷ xs) h k = ap (λ (n : ℕ). 1 + c .size y + n) (entries-sized left (x ∷ xs) (omega arith) (omega arith))
+
+  -- the entries' bits, each behind its recurrence bit
+  entries-written : (left : ℕ) (xs : List A) → 0 < length xs → length xs ≤ suc left → listed z c left .write xs ≡ written c xs
+  unfolding listed viewed _thenBy_ present nothing recurs tested flag
+  entries-written left [] h k = absurd (omega arith)
+  entries-written zero (y ∷ []) h k = refl
+  entries-written zero (y ∷ x ∷ xs) h k = absurd (omega arith)
+  entries-written (suc left) (y ∷ []) h k = refl
+  entries-written (suc left) (y ∷ x ∷ xs) h k = ap (λ (l : List Bool). (true ∷ c .write y) ++ l) (entries-written left (x ∷ xs) (omega arith) (omega arith))
 
   -- the entries before i end at place q
   pub record Ending (room left : ℕ) (l : List A) (k p i q : ℕ) : Type 0 where
@@ -92,7 +105,7 @@ module _ {A : Type 0} (z : A) (c : Codec A) where
           pub ending-more : (b r : ℕ) → b ≡ q + 1 → r ≡ b + c .size (getD l i d) → Ending room left l k p (i + 1) r
           ending-more b r e f = record { within = omega arith; place = omega (arith, w .place, here) }
 
--- a list that is legal with room for fewer is legal with room for more, and as long
+-- a list that is legal with room for fewer is legal with room for more, as long and written as the same bits
 module _ {A : Type 0} (z : A) (c : Codec A) (room few left : ℕ) (l : List A) (k : ℕ) (legal : cells z room (suc few) 5 (listed z c few) .check (l, k) ≡ 0) (le : few ≤ left) (fits : suc left ≤ room) where
   in-few : length (take k l) ≤ suc few
   in-few = rw length-take (omega (arith, count-most z c room few l k legal))
@@ -111,3 +124,7 @@ module _ {A : Type 0} (z : A) (c : Codec A) (room few left : ℕ) (l : List A) (
   pub wider-size : cells z room (suc few) 5 (listed z c few) .size (l, k) ≡ cells z room (suc left) 5 (listed z c left) .size (l, k)
   unfolding cells viewed
   wider-size = entries-sized z c few (take k l) not-none in-few ∙ sym (entries-sized z c left (take k l) not-none (omega (arith, in-few)))
+
+  pub wider-write : cells z room (suc few) 5 (listed z c few) .write (l, k) ≡ cells z room (suc left) 5 (listed z c left) .write (l, k)
+  unfolding cells viewed
+  wider-write = entries-written z c few (take k l) not-none in-few ∙ sym (entries-written z c left (take k l) not-none (omega (arith, in-few)))

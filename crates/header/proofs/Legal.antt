@@ -2,12 +2,14 @@
 use Prim.Native.Nat.{ℕ, zero, suc, _+_, _-_, _≤_}
 use mathlib.Core.Path.{_≡_, refl, ap₂}
 use mathlib.Core.Bool.{Bool, true, false}
+use mathlib.Core.List.{List, [], _∷_, _++_}
 use lib.Dec.{lit≤}
 use native.Mathlib.Omega.{arith}
 use Rattle.codec.specs.Codec.{Codec, first, flag, number, nothing, tested, present, viewed, _thenBy_, _closedBy_}
 use Rattle.codec.specs.Lists.{recurs}
+use Rattle.codec.specs.Writes.{Writes}
 use Rattle.codec.proofs.Sequences.{first-zero}
-use Rattle.codec.proofs.ListEnds.{wider-legal, wider-size}
+use Rattle.codec.proofs.ListEnds.{wider-legal, wider-size, wider-write}
 use Rattle.header.specs.Zero.{noAddress, noAddresses, noReferences}
 use Rattle.header.specs.Table.{maybe, address, addresses, originator, recipients, roomBehind, information, front, format, handling, times, optionalResponse, references, optionalReferences, block}
 use Rattle.header.specs.declared.Addresses.{Addresses}
@@ -36,32 +38,56 @@ pub addressees-legal : (x : OptionalAddresses) → x .present ≡ true → recip
 unfolding recipients viewed _thenBy_ flag first
 addressees-legal x e h = present-legal noAddresses (addresses 15) (x .present) (x .addresses) e h
 
--- legal information addressees are legal, and as long, as recipients are
+-- legal information addressees are legal, as long and written as the same bits, as recipients are
 module _ (n : ℕ) (le : n ≤ 16) where
-  wider : (y : Addresses) → addresses (n - 1) .check y ≡ 0 → (addresses 15 .check y ≡ 0) × (addresses (n - 1) .size y ≡ addresses 15 .size y)
+  record Wider (c d : Codec Addresses) (y : Addresses) : Type 0 where
+    legal : d .check y ≡ 0
+    size : c .size y ≡ d .size y
+    bits : c .write y ≡ d .write y
+
+  wider : (y : Addresses) → addresses (n - 1) .check y ≡ 0 → Wider (addresses (n - 1)) (addresses 15) y
   unfolding addresses viewed
-  wider y h = (
-    wider-legal noAddress address 16 (n - 1) 15 (y .list) (y .count) h (omega arith) (lit≤ tt),
-    wider-size noAddress address 16 (n - 1) 15 (y .list) (y .count) h (omega arith) (lit≤ tt),
-  )
+  wider y h =
+      record {
+        legal = wider-legal noAddress address 16 (n - 1) 15 (y .list) (y .count) h (omega arith) (lit≤ tt);
+        size = wider-size noAddress address 16 (n - 1) 15 (y .list) (y .count) h (omega arith) (lit≤ tt);
+        bits = wider-write noAddress address 16 (n - 1) 15 (y .list) (y .count) h (omega arith) (lit≤ tt);
+      }
 
   bit-size : (m : ℕ) (b : Bool) → recurs m .size b ≡ 1
   unfolding recurs tested flag
   bit-size zero b = refl
   bit-size (suc m) b = refl
 
-  go : (b : Bool) (y : Addresses) → present noAddresses (addresses (n - 1)) b .check y ≡ 0 → (present noAddresses (addresses 15) b .check y ≡ 0) × (present noAddresses (addresses (n - 1)) b .size y ≡ present noAddresses (addresses 15) b .size y)
+  bit-write : (m : ℕ) (b : Bool) → recurs m .write b ≡ b ∷ []
+  unfolding recurs tested flag
+  bit-write zero b = refl
+  bit-write (suc m) b = refl
+
+  go : (b : Bool) (y : Addresses) → present noAddresses (addresses (n - 1)) b .check y ≡ 0 → Wider (present noAddresses (addresses (n - 1)) b) (present noAddresses (addresses 15) b) y
   unfolding present nothing
   go true y h = wider y h
-  go false y h = (refl, refl)
+  go false y h = record { legal = refl; size = refl; bits = refl }
 
-  pub information-legal : (x : OptionalAddresses) → information n .check x ≡ 0 → recipients .check x ≡ 0
-  unfolding information recipients viewed _thenBy_ flag first
-  information-legal x h = go (x .present) (x .addresses) (first-zero (recurs n .check (x .present)) _ h .1) .0
+  module _ (x : OptionalAddresses) (h : information n .check x ≡ 0) where
+    here : Wider (present noAddresses (addresses (n - 1)) (x .present)) (present noAddresses (addresses 15) (x .present)) (x .addresses)
+    unfolding information viewed _thenBy_
+    here = go (x .present) (x .addresses) (first-zero (recurs n .check (x .present)) _ h .1)
 
-  pub information-size : (x : OptionalAddresses) → information n .check x ≡ 0 → information n .size x ≡ recipients .size x
-  unfolding information recipients viewed _thenBy_ flag
-  information-size x h = ap₂ _+_ (bit-size n (x .present)) (go (x .present) (x .addresses) (first-zero (recurs n .check (x .present)) _ h .1) .1)
+    pub information-legal : recipients .check x ≡ 0
+    unfolding information recipients viewed _thenBy_ flag first
+    information-legal = here .legal
+
+    pub information-size : information n .size x ≡ recipients .size x
+    unfolding information recipients viewed _thenBy_ flag
+    information-size = ap₂ _+_ (bit-size n (x .present)) (here .size)
+
+    information-bits : information n .write x ≡ recipients .write x
+    unfolding information recipients viewed _thenBy_ flag
+    information-bits = ap₂ _++_ (bit-write n (x .present)) (here .bits)
+
+    pub information-writes : (s t : List ℕ) (p q : ℕ) → Writes recipients x s t p q → Writes (information n) x s t p q
+    information-writes s t p q w = record { bits = rw information-bits (w .bits); ends = rw information-bits (w .ends); next = rw information-size (w .next) }
 
 pub front-recipients : (x : Front) → front .check x ≡ 0 → recipients .check (x .recipients) ≡ 0
 unfolding front viewed _thenBy_

@@ -10,7 +10,7 @@ use borrow.Author.Tests.{le-leb, lt-leb}
 use native.Mathlib.Omega.{arith}
 use denote.Enum.Declared.{tagOf}
 use Rattle.bits.specs.Bits.{bitsOf}
-use Rattle.bits.specs.Units.{wholeOctets, datagramLimit}
+use Rattle.bits.specs.Units.{fillBits, wholeOctets, datagramLimit}
 use Rattle.bits.specs.declared.BitPlace.{BitPlace}
 use Rattle.bits.proofs.OctetBits.{length-bitsOf}
 use Rattle.codec.specs.Answer.{Answer, got, refused, pick}
@@ -23,7 +23,7 @@ use Rattle.header.specs.Rules.{rulesKept}
 use Rattle.header.specs.declared.Header.{Header}
 use Rattle.header.specs.declared.Wire.{Wire}
 use Rattle.header.proofs.Lawful.{wire-lawful}
-use Rattle.reader.specs.Reading.{Reading, accepted, rejected, recordOf, readFill, fillBits, sizesHold, settled, filled, judged, reading, behindHeader, userData}
+use Rattle.reader.specs.Reading.{Reading, accepted, rejected, recordOf, readFill, sizesHold, settled, filled, judged, reading, behindHeader, userData}
 use Rattle.reader.specs.Told.{Told, told, toTell, stoppedBy, outcomeDone}
 use Rattle.reader.specs.declared.HeaderRead.{HeaderRead}
 use Rattle.reader.specs.declared.Outcome.{Outcome}

@@ -1,11 +1,11 @@
 -- Reading a datagram: what document 01 makes of every octet string, with its refusals in their order.
-use Prim.Native.Nat.{ℕ, zero, suc, _+_, _*_, _-_}
+use Prim.Native.Nat.{ℕ, zero, suc, _-_}
 use mathlib.Core.Bool.{Bool, true, false, _&&_}
 use mathlib.Core.List.{List, []}
 use lib.ListN.{length, drop}
 use lib.Dec.{leb, eqb}
 use Rattle.bits.specs.Bits.{bitsOf}
-use Rattle.bits.specs.Units.{wholeOctets, datagramLimit}
+use Rattle.bits.specs.Units.{wholeOctets, fillBits, datagramLimit}
 use Rattle.codec.specs.Answer.{Answer, got, refused, next, pick}
 use Rattle.codec.specs.Codec.{must}
 use Rattle.header.specs.Table.{wire}
@@ -27,10 +27,6 @@ recordOf w = record { front = w .front; sized = w .size .present; blocks = w .bl
 unfoldable pub readFill : ℕ → List Bool → ℕ → Answer Bool
 readFill zero bs p = got false p
 readFill (suc n) bs p = next (must false 9 .read bs p) (λ b q. readFill n bs q)
-
--- the bits from a header's end up to a whole octet
-abbrev pub fillBits : ℕ → ℕ
-fillBits end = 8 * wholeOctets end - end
 
 -- a header size equals the header's octets, and the blocks own the octets behind it
 abbrev pub sizesHold : Wire → ℕ → ℕ → Bool

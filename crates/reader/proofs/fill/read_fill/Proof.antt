@@ -3,8 +3,9 @@ use borrow.Author.Needs.{needs}
 use Prim.Native.Nat.{ℕ}
 use mathlib.Core.Path.{_≡_, refl, ap, sym, _∙_}
 use native.Mathlib.Omega.{arith}
+use Rattle.bits.specs.Units.{fillBits}
 use Rattle.bits.specs.Bits.{bitsOf}
-use Rattle.reader.specs.Reading.{readFill, fillBits}
+use Rattle.reader.specs.Reading.{readFill}
 use Rattle.reader.proofs.FillBits.{fill-more, fill-stop, fill-none}
 use Rattle.reader.proofs.fill.read_fill.Statement.{statement}
 use Rattle.reader.proofs.fill.read_fill.Tie as tie

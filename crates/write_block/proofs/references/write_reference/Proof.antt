@@ -1,0 +1,22 @@
+-- `write_block::references::write_reference` meets its contract. Assumes nothing.
+use borrow.Author.Needs.{needs}
+use Rattle.codec.specs.Codec.{_thenBy_, viewed}
+use Rattle.codec.proofs.Compose.{writing}
+use Rattle.header.specs.Table.{reference}
+use Rattle.write_block.proofs.references.write_reference.Statement.{statement}
+use Rattle.write_block.proofs.references.write_reference.Tie as tie
+
+write-address-requires : tie.Need-write-address-requires
+unfolding reference _thenBy_ viewed
+write-address-requires c κs = search needs
+
+write-stamp-requires : tie.Need-write-stamp-requires
+unfolding reference _thenBy_ viewed
+write-stamp-requires c κs = search needs
+
+returns : tie.Need-returns
+unfolding reference
+returns c = search writing depth 12
+
+pub write-reference-spec : {M : Type 1} → statement M
+write-reference-spec = tie.close (tie.spec write-address-requires write-stamp-requires (λ c. search needs) returns)

@@ -1,0 +1,3 @@
+// Writing a message block, and the list of them.
+pub mod block;
+pub mod references;
