@@ -1,0 +1,86 @@
+// Writing a record as a header, and the check alone.
+ghost use mathlib.Core.Path.{_≡_};
+ghost use lib.ListN.{length};
+ghost use Rattle.codec.specs.Codec.{first};
+ghost use Rattle.codec.specs.Refusals.{checkNo, faultNo};
+ghost use Rattle.writer.specs.Writing.{fieldsFault, answered, rejected, checking, writing, outputAfter, told};
+use bits::BitPlace;
+use bits::OctetSize;
+use codec::Check;
+use codec::Fault;
+use codec::earlier;
+use header::Header;
+
+pub mod wire;
+
+// The answer of writing and of the check: done, with the header's octets; or refused with the kind of
+// fault and the place, which is always 0.
+pub enum Written {
+    Done(OctetSize),
+    Refused(Fault, BitPlace),
+}
+
+fn refusal(fault: Fault) -> Written
+    ensures { λ r. ⌜ told r ≡ rejected (faultNo fault) 0 ⌝ }
+{
+    Written::Refused(fault, BitPlace(0))
+}
+
+// The answer where the fields are at fault.
+fn refused_by(fields: Check) -> Written
+    ensures { λ r. ⌜ told r ≡ answered (checkNo fields) 0 ⌝ }
+{
+    match fields {
+        Check::Fine => Written::Done(OctetSize(0)),
+        Check::Bad(fault) => refusal(fault),
+    }
+}
+
+// Every field, in the order of the table.
+fn check_fields(h: Header) -> Check
+    ensures { λ r. ⌜ checkNo r ≡ fieldsFault h ⌝ }
+{
+    let front = checker::front::check_front(h.front);
+    let blocks = checker::block::check_blocks(h.blocks);
+    earlier(front, blocks)
+}
+
+// Whether a record is valid with so many octets of user data: the fields, then the rules (8), the
+// sizes (10) and the datagram's length (12). Done tells the octets that its header has.
+pub fn check(h: Header, count: OctetSize) -> Written
+    ensures { λ r. ⌜ told r ≡ checking h (count .0) ⌝ }
+{
+    let fields = check_fields(h);
+    let Check::Fine = fields else {
+        return refused_by(fields);
+    };
+    if !rules::rule::rules_kept(h) {
+        return refusal(Fault::Rule);
+    }
+    if !rules::sizes::sizes_right(h.blocks, count) {
+        return refusal(Fault::Size);
+    }
+    let end = wire::fields_end(h);
+    let size = bits::whole_octets(end);
+    if 65507 - size.0 < count.0 {
+        return refusal(Fault::TooLong);
+    }
+    Written::Done(size)
+}
+
+// Writes a record's header into the output: the record is checked, then the room (11); only then is
+// the first bit written. Done, the output begins with the header and is otherwise as it was; refused,
+// it is as it was.
+pub fn write(h: Header, count: OctetSize, out: &mut [u8]) -> Written
+    ensures { λ r. ⌜ (told r ≡ writing h (count .0) (length (now (out .entry)))) × (now (out .exit) ≡ outputAfter h (writing h (count .0) (length (now (out .entry)))) (now (out .entry))) ⌝ }
+{
+    let answer = check(h, count);
+    let Written::Done(size) = answer else {
+        return answer;
+    };
+    if out.len() < size.0 {
+        return refusal(Fault::NoRoom);
+    }
+    wire::write_header(out, h, size);
+    answer
+}
