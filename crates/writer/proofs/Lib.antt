@@ -1,3 +1,3 @@
-mod Ways
-mod Parts
-mod Packed
+pub mod Ways
+pub mod Parts
+pub mod Packed

@@ -16,7 +16,7 @@ use Rattle.header.proofs.Bounds.{wire-bounded}
 use Rattle.writer.specs.Writing.{wireOf, fieldsEnd, headerSize, fieldsFault}
 
 -- a number of 16 bits is legal
-size-legal : (b : Bool) (n : ℕ) → n ≤ 65535 → maybe 16 0 65535 .check (record { present = b; value = n }) ≡ 0
+pub size-legal : (b : Bool) (n : ℕ) → n ≤ 65535 → maybe 16 0 65535 .check (record { present = b; value = n }) ≡ 0
 unfolding optionalNumber viewed _thenBy_ flag first present number nothing
 size-legal true n l = rw (le-leb 0 n (omega arith), le-leb n 65535 l)
 size-legal false n l = refl

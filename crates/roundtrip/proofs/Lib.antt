@@ -1,0 +1,7 @@
+mod Zeros
+mod Parts
+pub mod ReadBack
+pub mod WrittenAgain
+pub mod OnlyHeader
+pub mod SameRecords
+pub mod Calls
