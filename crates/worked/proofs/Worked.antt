@@ -1,9 +1,9 @@
 -- Document 01's starred cases hold, each by computing the definitions that the public contracts cite. Assumes nothing.
 use mathlib.Core.Path.{refl}
-use Rattle.bits.specs.Bits.{lowBits, value, bitsOf}
+use Rattle.bits.specs.Bits.{lowBits, value, bitsOf, octets}
 use Rattle.codec.specs.Answer.{next}
-use Rattle.codec.specs.Codec.{readNumber, number, flag, nothing, _thenBy_, present, viewed, tested, _closedBy_}
-use Rattle.codec.specs.Characters.{readCharacters, characters}
+use Rattle.codec.specs.Codec.{first, readNumber, number, flag, nothing, _thenBy_, present, viewed, tested, _closedBy_}
+use Rattle.codec.specs.Characters.{readCharacters, writeCharacters, characters}
 use Rattle.codec.specs.Lists.{recurs, listed, cells}
 use Rattle.optional.specs.Optionals.{optionalNumber}
 use Rattle.text.specs.Texts.{text}
@@ -12,8 +12,9 @@ use Rattle.header.specs.Table.{optionalText, unitName, address, addresses, orig
 use Rattle.header.specs.Rules.{ruleA, ruleB, ruleC, ruleD, ruleE, ruleF, ruleG, ruleH, ruleI, all, rulesKept}
 use Rattle.header.specs.Sizes.{shares, total, sizesRight}
 use Rattle.reader.specs.Reading.{readFill, settled, filled, judged, reading, behindHeader}
+use Rattle.writer.specs.Writing.{headerBits, headerOf, faultOf, answered, writing, outputAfter}
 use Rattle.worked.specs.Cases.{AllHold, cases}
 
 pub worked : AllHold cases
-unfolding cases lowBits value bitsOf next readNumber number flag nothing _thenBy_ present viewed tested _closedBy_ readCharacters characters recurs listed cells optionalNumber text noNumber noOptionalText noAddress noAddresses noDtg noStamp noIdentity noFormat noHandling noRequests noTimes noResponse noReference noReferences noBlock optionalText unitName address addresses originator recipients information front date time dtg stamp identity optionalIdentity format codes handling optionalStamp optionalDtg requests optionalRequests times compliance response optionalResponse reference references optionalReferences block blocks wire ruleA ruleB ruleC ruleD ruleE ruleF ruleG ruleH ruleI all rulesKept shares total sizesRight readFill settled filled judged reading behindHeader
-worked = ((refl, refl), ((refl, refl), ((refl, refl), ((refl, refl), ((refl, refl), ((refl, refl), ((refl, refl), ((refl, refl), tt))))))))
+unfolding cases lowBits value bitsOf next readNumber number flag nothing _thenBy_ present viewed tested _closedBy_ readCharacters characters recurs listed cells optionalNumber text noNumber noOptionalText noAddress noAddresses noDtg noStamp noIdentity noFormat noHandling noRequests noTimes noResponse noReference noReferences noBlock optionalText unitName address addresses originator recipients information front date time dtg stamp identity optionalIdentity format codes handling optionalStamp optionalDtg requests optionalRequests times compliance response optionalResponse reference references optionalReferences block blocks wire ruleA ruleB ruleC ruleD ruleE ruleF ruleG ruleH ruleI all rulesKept shares total sizesRight readFill settled filled judged reading behindHeader first writeCharacters octets headerBits headerOf faultOf answered writing outputAfter
+worked = ((refl, refl), ((refl, refl), ((refl, refl), ((refl, refl), ((refl, refl), ((refl, refl), ((refl, refl), ((refl, refl), ((refl, refl), ((refl, refl), ((refl, refl), ((refl, refl), tt))))))))))))

@@ -1,10 +1,9 @@
--- Document 01's starred cases: a datagram, what reading it gives, and the user data behind its header. The records are written out field by field; a
--- group that is absent has the zero value in its cells.
+-- Document 01's starred cases. The records are written out field by field; a group that is absent has the zero value in its cells.
 use Prim.Native.Nat.{ℕ}
 use mathlib.Core.Path.{_≡_}
 use mathlib.Core.Bool.{Bool, true, false}
-use mathlib.Core.List.{List, [], _∷_}
-use lib.ListN.{replicate}
+use mathlib.Core.List.{List, [], _∷_, _++_}
+use lib.ListN.{length, drop, replicate}
 use Rattle.header.specs.Zero.{noNumber, noOptionalText, noAddress, noAddresses, noDtg, noStamp, noIdentity, noRequests, noResponse, noReferences, noBlock}
 use Rattle.header.specs.declared.Address.{Address}
 use Rattle.header.specs.declared.Addresses.{Addresses}
@@ -13,25 +12,36 @@ use Rattle.header.specs.declared.Codes.{Codes}
 use Rattle.header.specs.declared.Stamp.{Stamp}
 use Rattle.header.specs.declared.Header.{Header}
 use Rattle.reader.specs.Reading.{Reading, accepted, rejected, reading, userData}
+use Rattle.writer.specs.Writing as Writing
+use Rattle.writer.specs.Writing.{Writing, done, writing, outputAfter}
 
-pub record Case : Type 0 where
-  pub datagram : List ℕ
-  pub gives : Reading
-  pub behind : List ℕ
+-- a datagram, what reading it gives, and the user data behind its header; or a record with a count of user data and an output, what writing it gives, and the
+-- output afterwards
+pub data Case : Type 0 where
+  reads : List ℕ → Reading → List ℕ → Case
+  writes : Header → ℕ → List ℕ → Writing → List ℕ → Case
 
--- a case holds of the definitions that the contracts of `read` and `user_data` cite
+-- a case holds of the definitions that the contracts of `read`, `user_data` and `write` cite
 abbrev pub Holds : Case → Type 0
-Holds c = (reading (c .datagram) ≡ c .gives) × (userData (c .datagram) ≡ c .behind)
+Holds (reads s gives behind) = (reading s ≡ gives) × (userData s ≡ behind)
+Holds (writes h count out gives after) = (writing h count (length out) ≡ gives) × (outputAfter h (writing h count (length out)) out ≡ after)
 
 abbrev pub AllHold : List Case → Type 0
 AllHold [] = Unit {0}
 AllHold (c ∷ cs) = Holds c × AllHold cs
 
 abbrev refusedWith : List ℕ → ℕ → ℕ → Case
-refusedWith s number place = record { datagram = s; gives = rejected number place; behind = [] }
+refusedWith s number place = reads s (rejected number place) []
 
 abbrev acceptedAs : List ℕ → List ℕ → Header → ℕ → Case
-acceptedAs s d h octets = record { datagram = s; gives = accepted h octets; behind = d }
+acceptedAs s d h octets = reads s (accepted h octets) d
+
+-- written over the beginning of 20 octets 77
+abbrev over : List ℕ
+over = replicate 20 0x77
+
+abbrev writtenAs : Header → ℕ → List ℕ → Case
+writtenAs h count s = writes h count over (done (length s)) (s ++ drop (length s) over)
 
 -- an address by its URN
 abbrev byUrn : ℕ → Address
@@ -155,17 +165,31 @@ recordC =
           };
     }
 
+abbrev octetsA : List ℕ
+octetsA = 0x02 ∷ 0x08 ∷ 0x00 ∷ 0x00 ∷ 0x00 ∷ []
+
+abbrev octetsB : List ℕ
+octetsB = 0xE2 ∷ 0x67 ∷ 0x00 ∷ 0x00 ∷ 0x1D ∷ 0x00 ∷ 0x00 ∷ 0x00 ∷ 0x01 ∷ 0x00 ∷ 0xC1 ∷ 0x37 ∷ 0xE0 ∷ 0x76 ∷ 0x33 ∷ 0x00 ∷ []
+
+abbrev octetsC : List ℕ
+octetsC = 0xE2 ∷ 0x01 ∷ 0x00 ∷ 0x00 ∷ 0x7D ∷ 0x06 ∷ 0x00 ∷ 0x00 ∷ 0x01 ∷ 0x00 ∷ 0x08 ∷ 0xBE ∷ 0x01 ∷ 0xB7 ∷ 0x5B ∷ 0x00 ∷ []
+
 unfoldable pub cases : List Case
 cases =
     -- A with one octet of data; without data; its last octet 02 (a fill bit), and 01 (the presence bit of G10)
-    acceptedAs (0x02 ∷ 0x08 ∷ 0x00 ∷ 0x00 ∷ 0x00 ∷ 0x5A ∷ []) (0x5A ∷ []) recordA 5
-    ∷ refusedWith (0x02 ∷ 0x08 ∷ 0x00 ∷ 0x00 ∷ 0x00 ∷ []) 10 0
+    acceptedAs (octetsA ++ 0x5A ∷ []) (0x5A ∷ []) recordA 5
+    ∷ refusedWith octetsA 10 0
     ∷ refusedWith (0x02 ∷ 0x08 ∷ 0x00 ∷ 0x00 ∷ 0x02 ∷ 0x5A ∷ []) 9 33
     ∷ refusedWith (0x02 ∷ 0x08 ∷ 0x00 ∷ 0x00 ∷ 0x01 ∷ 0x5A ∷ []) 7 32
     -- empty input; first octet 01
     ∷ refusedWith [] 1 0
     ∷ refusedWith (0x01 ∷ 0x08 ∷ 0x00 ∷ 0x00 ∷ 0x00 ∷ 0x5A ∷ []) 2 0
     -- B with one octet of data, and C
-    ∷ acceptedAs (0xE2 ∷ 0x67 ∷ 0x00 ∷ 0x00 ∷ 0x1D ∷ 0x00 ∷ 0x00 ∷ 0x00 ∷ 0x01 ∷ 0x00 ∷ 0xC1 ∷ 0x37 ∷ 0xE0 ∷ 0x76 ∷ 0x33 ∷ 0x00 ∷ 0x01 ∷ []) (0x01 ∷ []) recordB 16
-    ∷ acceptedAs (0xE2 ∷ 0x01 ∷ 0x00 ∷ 0x00 ∷ 0x7D ∷ 0x06 ∷ 0x00 ∷ 0x00 ∷ 0x01 ∷ 0x00 ∷ 0x08 ∷ 0xBE ∷ 0x01 ∷ 0xB7 ∷ 0x5B ∷ 0x00 ∷ []) [] recordC 16
+    ∷ acceptedAs (octetsB ++ 0x01 ∷ []) (0x01 ∷ []) recordB 16
+    ∷ acceptedAs octetsC [] recordC 16
+    -- A, B and C written, A and B with one octet of data; A without data
+    ∷ writtenAs recordA 1 octetsA
+    ∷ writtenAs recordB 1 octetsB
+    ∷ writtenAs recordC 0 octetsC
+    ∷ writes recordA 0 over (Writing.rejected 10 0) over
     ∷ []

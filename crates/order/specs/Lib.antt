@@ -1,0 +1,9 @@
+pub mod Order
+pub mod Values
+pub mod Keyed
+pub mod Runs
+pub mod Machine
+pub mod Requests
+pub mod Calls
+pub mod Sheet
+pub mod WellFormed

@@ -1,0 +1,44 @@
+-- Rows that may stand on a board, for given legal keys and addresses.
+use mathlib.Core.Path.{_≡_}
+use mathlib.Core.Logic.{inl, inr}
+use mathlib.Core.List.{List, [], _∷_}
+use mathlib.Core.Option.{Option, none, some}
+use Prim.Native.Nat.{_≤_}
+use lib.ListN.{length}
+use lib.Dec.{T}
+use Rattle.order.specs.Values.{Key, Address, byKey, byAddress}
+use Rattle.order.specs.Keyed.{find, InOrder}
+use Rattle.order.specs.Requests.{Mark, anyOf, WellMarked}
+use Rattle.order.specs.Calls.{Deed, post, receipt, release, Call, Row, Rows}
+
+module _ (LegalKey : Key → Type 0) (LegalAddress : Address → Type 0) where
+  pub record FineRow (k : Key) (r : Row) : Type 0 where
+    pub legal : LegalKey k
+    pub asked : T (anyOf (r .0))
+    pub order : InOrder byAddress (r .1)
+    pub least : 1 ≤ length (r .1)
+    pub most : length (r .1) ≤ 16
+    pub each : (w : Address) (m : Mark) → find byAddress w (r .1) ≡ some m → LegalAddress w × WellMarked (r .0) m
+
+  abbrev pub FineCell : Key → Option Row → Type 0
+  FineCell k none = Unit {0}
+  FineCell k (some r) = FineRow k r
+
+  pub record WellFormed (s : Rows) : Type 0 where
+    pub order : InOrder byKey s
+    pub rows : (k : Key) → FineCell k (find byKey k s)
+    pub fits : length s ≤ 32
+
+  abbrev pub LegalAll : List Address → Type 0
+  LegalAll [] = Unit {0}
+  LegalAll (r ∷ rs) = LegalAddress r × LegalAll rs
+
+  -- what a posting names may make a row
+  abbrev pub LegalDeed : Deed → Type 0
+  LegalDeed (post k a rs) = LegalKey k × T (anyOf a) × (1 ≤ length rs) × (length rs ≤ 16) × LegalAll rs
+  LegalDeed (receipt k w c) = Unit {0}
+  LegalDeed (release k) = Unit {0}
+
+  abbrev pub LegalCall : Call → Type 0
+  LegalCall (inl n) = Unit {0}
+  LegalCall (inr d) = LegalDeed d

@@ -1,0 +1,56 @@
+-- When a table is well formed, in document 01's words: at most 32 rows with legal keys and addresses, strictly in key order; 1 to 16 recipients, strictly in
+-- order; something asked; codes only at asked requests and fitting them; where any code at a recipient is 2, no request is open there.
+use Prim.Native.Nat.{ℕ, Ordering, Ordering·lt as lt, Ordering·eq as eq, Ordering·gt as gt}
+use mathlib.Core.Bool.{Bool, true, false, not, _&&_, _||_}
+use mathlib.Core.List.{List, [], _∷_, map}
+use lib.Dec.{leb, eqb}
+use Rattle.codec.specs.Codec.{first}
+use Rattle.header.specs.Table.{address, stamp}
+use Rattle.header.specs.Rules.{_⇒_, all}
+use Rattle.header.specs.declared.Requests.{Requests}
+use Rattle.order.specs.Order.{choose}
+use Rattle.order.specs.Values.{addressOf, keyOf, byAddress, byKey}
+use Rattle.order.specs.Requests.{answeredBy}
+use Rattle.order.specs.declared.Key.{Key}
+use Rattle.table.specs.Rows.{usedRecipients, usedRows}
+use Rattle.table.specs.declared.Recipient.{Recipient}
+use Rattle.table.specs.declared.Row.{Row}
+use Rattle.table.specs.declared.Table.{Table}
+
+-- the first refusal of a key, in the writer's order: address, DTG, extension; 0 for none
+abbrev pub keyFault : Key → ℕ
+keyFault k = first (address .check (k .address)) (stamp .check (k .stamp))
+
+-- strictly in order: each comes before the next
+unfoldable pub increasing : {A : Type 0} → (A → A → Ordering) → List A → Bool
+increasing cmp [] = true
+increasing cmp (x ∷ []) = true
+increasing cmp (x ∷ y ∷ l) = choose (cmp x y) true false false && increasing cmp (y ∷ l)
+
+-- no code; or a code at a request that is asked and that it answers
+abbrev pub fits : Bool → (ℕ → Bool) → ℕ → Bool
+fits asked answers code = eqb code 0 || (asked && answers code)
+
+-- asked, and without a code
+abbrev pub unanswered : Bool → ℕ → Bool
+unanswered asked code = asked && eqb code 0
+
+unfoldable pub recipientFine : Requests → Recipient → Bool
+recipientFine a r =
+    eqb (address .check (r .address)) 0
+    && fits (a .machine) (λ c. answeredBy c .machine) (r .machine)
+    && fits (a .acknowledge) (λ c. answeredBy c .acknowledge) (r .acknowledge)
+    && fits (a .reply) (λ c. answeredBy c .reply) (r .reply)
+    && ((eqb (r .machine) 2 || eqb (r .acknowledge) 2 || eqb (r .reply) 2)
+    ⇒ not (unanswered (a .machine) (r .machine) || unanswered (a .acknowledge) (r .acknowledge) || unanswered (a .reply) (r .reply)))
+
+unfoldable pub rowFine : Row → Bool
+rowFine r =
+    eqb (keyFault (r .key)) 0
+    && (r .asked .machine || r .asked .acknowledge || r .asked .reply)
+    && leb 1 (r .count) && leb (r .count) 16
+    && all (recipientFine (r .asked)) (usedRecipients r)
+    && increasing byAddress (map (λ x. addressOf (x .address)) (usedRecipients r))
+
+unfoldable pub wellFormed : Table → Bool
+wellFormed t = leb (t .count) 32 && all rowFine (usedRows t) && increasing byKey (map (λ r. keyOf (r .key)) (usedRows t))
