@@ -1,0 +1,1 @@
+// Posting, receipt and release on the table of pending messages.
