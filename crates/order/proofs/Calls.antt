@@ -19,7 +19,7 @@ use Rattle.order.specs.Sheet.{posting, writing, answering, receiving, re
 use Rattle.order.specs.WellFormed.{FineRow, FineCell, WellFormed, LegalAll, LegalDeed, LegalCall}
 use Rattle.order.proofs.Orders.{cases, by-key, by-address}
 use Rattle.order.proofs.Keyed.{sorted, arrived, held, same-or-not, find-alter, find-alter-other, alter-comm, length-alter, alter-in-order, length-put, put-some, put-find, sort-in-order, length-sort, find-sort, find-arrival, put-takes-out, put-adds, put-changes}
-use Rattle.order.proofs.Runs.{Swaps, change, keeps, same-answers, same-views}
+use Rattle.order.proofs.Runs.{Swaps, change, keeps, same-answers, same-final, same-views}
 use Rattle.order.proofs.Machine.{pair, step-in-order, stays, all-step, Alike, alike-step, alike-sort, empty-alike, apart-swaps, cell-swaps}
 use Rattle.order.proofs.Requests.{blank-well, settle-well}
 
@@ -218,6 +218,10 @@ module _ {C : Type 0} (read : C → Call) where
   pub history-boards : {X : Type 0} (f : Rows → X) (cs : List C) →
       map f (states (λ c. board (read c)) [] cs) ≡ map (λ t. f (sort byKey t)) (states (λ c. sheet (read c)) [] cs)
   history-boards f cs = same-views _ _ Both (λ c. together (read c)) f _ (λ s t r. ap f (alike-sort key act by-key s t r)) cs _ _ (empty-alike key act by-key)
+
+  -- board and sheet hold equally many rows
+  pub history-count : (cs : List C) → length (final (λ c. board (read c)) [] cs) ≡ length (final (λ c. sheet (read c)) [] cs)
+  history-count cs = same-final _ _ Both (λ c. together (read c)) cs _ _ (empty-alike key act by-key) .count
 
 -- ---- receipts from different answerers
 

@@ -1,8 +1,8 @@
--- Lists of calls: when two neighbours may change places, when two machines answer alike, and what a run of the code answers. Assumes nothing.
-use mathlib.Core.Path.{_≡_, refl, ap, ap₂, _∙_}
+-- Lists of calls: when two neighbours may change places, and when two machines answer alike. Assumes nothing.
+use mathlib.Core.Path.{_≡_, refl, ap}
 use mathlib.Core.List.{List, [], _∷_, _++_, map}
 use lib.ListN.{length}
-use Rattle.order.specs.Runs.{exchange, final, answers, states, Changed, Ran, stop, call}
+use Rattle.order.specs.Runs.{exchange, final, answers, states, Changed}
 
 module _ {C S A : Type 0} (step : C → S → A × S) where
   -- two calls that may change places at a state
@@ -46,14 +46,7 @@ module _ {C S T A : Type 0} (step : C → S → A × S) (plain : C → T → A �
   same-views f g v [] s t r = ap (λ x. x ∷ []) (v s t r)
   same-views f g v (c ∷ cs) s t r = let h = sim c s t r in λ i. v s t r i ∷ same-views f g v cs (step c s .1) (plain c t .1) (h .1) i
 
--- The seam to the code. B: the boards as the code holds them, read by `see`. Where a well-formed board is given, what a call's contract promises is the step.
-module _ {C S A B : Type 0} (step : C → S → A × S) (see : B → S) (Well : S → Type 0) (kept : (c : C) (s : S) → Well s → Well (step c s .1))
-    (Did : C → B → A → B → Type 0) (did : (c : C) (b b′ : B) (x : A) → Well (see b) → Did c b x b′ → (x ≡ step c (see b) .0) × (see b′ ≡ step c (see b) .1)) where
-  pub ran : {b e : B} {cs : List C} {xs : List A} {bs : List B} → Ran Did b cs xs bs e → (s : S) → see b ≡ s → Well s →
-      (xs ≡ answers step s cs) × (map see bs ≡ states step s cs) × (see e ≡ final step s cs)
-  unfolding answers states final
-  ran stop s q w = (refl, ap (λ t. t ∷ []) q, q)
-  ran (call {b = b} {b′ = b′} {c = c} {x = x} d r) s q w =
-      let h = did c b b′ x (rw q w) d in
-      let k = ran r (step c s .1) (h .1 ∙ ap (λ t. step c t .1) q) (kept c s w) in
-      (ap₂ _∷_ (h .0 ∙ ap (λ t. step c t .0) q) (k .0), ap₂ _∷_ q (k .1), k .2)
+  pub same-final : (cs : List C) (s : S) (t : T) → R s t → R (final step s cs) (final plain t cs)
+  unfolding final
+  same-final [] s t r = r
+  same-final (c ∷ cs) s t r = same-final cs (step c s .1) (plain c t .1) (sim c s t r .1)

@@ -1,2 +1,4 @@
 mod Alike
+mod Legal
+pub mod Names
 pub mod SheetIs

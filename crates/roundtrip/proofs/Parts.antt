@@ -1,46 +1,22 @@
--- What a valid record's checks say one by one, and what is known of an accepted datagram. Assumes nothing.
+-- What is known of an accepted datagram. Assumes nothing.
 use Prim.Native.Nat.{ℕ, _+_, _-_, _≤_}
 use mathlib.Core.Path.{_≡_, refl, ap, sym, _∙_}
 use mathlib.Core.Bool.{Bool, true, false, _&&_}
 use mathlib.Core.List.{List}
 use lib.ListN.{length}
-use lib.Dec.{leb, eqb, lit<}
+use lib.Dec.{leb, eqb}
 use borrow.Author.Tests.{leb-true}
 use native.Mathlib.Omega.{arith}
 use Rattle.bits.specs.Bits.{bitsOf}
 use Rattle.bits.specs.Units.{wholeOctets, fillBits, datagramLimit}
 use Rattle.codec.specs.Answer.{Answer, got, refused, pick}
-use Rattle.codec.specs.Codec.{first}
 use Rattle.codec.proofs.Fields.{and-left, and-right}
-use Rattle.codec.proofs.ListLaws.{fine-legal}
-use Rattle.codec.proofs.Sequences.{first-zero}
 use Rattle.header.specs.Table.{wire}
 use Rattle.header.specs.Rules.{_⇒_, rulesKept}
 use Rattle.header.specs.Sizes.{sizesRight}
 use Rattle.header.specs.declared.Header.{Header}
 use Rattle.header.specs.declared.Wire.{Wire}
 use Rattle.reader.specs.Reading.{Reading, accepted, rejected, recordOf, readFill, sizesHold, settled, filled, judged, reading}
-use Rattle.writer.specs.Writing.{headerSize, fieldsFault, faultOf, ValidRecord}
-
--- the checks of a valid record, one by one
-pub record Valid (h : Header) (count : ℕ) : Type 0 where
-  pub fields : fieldsFault h ≡ 0
-  pub rules : rulesKept h ≡ true
-  pub sizes : sizesRight (h .blocks) count ≡ true
-  pub short : headerSize h + count ≤ datagramLimit
-
-pub valid-parts : (h : Header) (count : ℕ) → ValidRecord h count → Valid h count
-unfolding faultOf
-valid-parts h count v =
-    let a = first-zero (fieldsFault h) _ v in
-    let b = first-zero (pick (rulesKept h) 0 8) _ (a .1) in
-    let c = first-zero (pick (sizesRight (h .blocks) count) 0 10) _ (b .1) in
-    record {
-      fields = a .0;
-      rules = fine-legal (rulesKept h) 0 8 (lit< tt) (b .0) .0;
-      sizes = fine-legal (sizesRight (h .blocks) count) 0 10 (lit< tt) (c .0) .0;
-      short = leb-true (headerSize h + count) datagramLimit (fine-legal (leb (headerSize h + count) datagramLimit) 0 12 (lit< tt) (c .1) .0);
-    }
 
 -- what is known of an accepted datagram with a header of n octets
 pub record Accepted (s : List ℕ) (n : ℕ) : Type 0 where

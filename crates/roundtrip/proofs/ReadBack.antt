@@ -32,9 +32,9 @@ use Rattle.writer.specs.Writing.{wireOf, fieldsEnd, headerSize, headerBits, hea
 use Rattle.writer.proofs.Parts.{wire-legal, size-bounded}
 use Rattle.writer.proofs.Packed.{fields-length, header-length}
 use Rattle.writer.proofs.Ways.{is-written}
+use Rattle.writer.proofs.Valid.{Valid, valid-parts}
 use Rattle.roundtrip.specs.Inverse.{ReadAs, WrittenAs}
 use Rattle.roundtrip.proofs.Zeros.{fill-read}
-use Rattle.roundtrip.proofs.Parts.{Valid, valid-parts}
 
 pub header-octets : (h : Header) → length (headerOf h) ≡ headerSize h
 unfolding headerOf

@@ -1,3 +1,4 @@
 pub mod Ways
 pub mod Parts
 pub mod Packed
+pub mod Valid

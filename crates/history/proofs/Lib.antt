@@ -1,0 +1,3 @@
+mod Runs
+mod Places
+pub mod Demand3

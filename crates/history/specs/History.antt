@@ -1,0 +1,38 @@
+-- Lists of calls: their runs, what the listing shows of a table and of the sheet, and which two neighbours may change places.
+use Prim.Native.Nat.{ℕ}
+use mathlib.Core.Path.{_≡_}
+use mathlib.Core.List.{List}
+use mathlib.Core.Option.{some}
+use lib.ListN.{length}
+use Rattle.header.specs.declared.Header.{Header}
+use Rattle.order.specs.Values.{Address, Key}
+use Rattle.order.specs.Runs.{Ran}
+use Rattle.table.specs.Rows.{see}
+use Rattle.table.specs.declared.Table.{Table}
+use Rattle.pending.specs.Arguments.{Arguments, posting, receiving, releasing, message, answerer}
+use Rattle.pending.specs.Sheet.{Sheet, inKeyOrder}
+use Rattle.pending.specs.Calls.{Did}
+use Rattle.listing.specs.Listing.{Listing, listing, listingOf, outputAfter}
+
+-- a run of the calls from table t: their answers, the tables before the first call and after each, and the last table. Each step is what the contracts of
+-- `post`, `receipt` and `release` promise
+abbrev pub Run : Table → List Arguments → List ℕ → List Table → Table → Type 0
+Run = Ran Did
+
+-- what the listing's call answers and leaves in the output, for any row number and output: of a table, as its contract promises, and of the sheet's rows
+abbrev pub tableListing : Table → ℕ → List ℕ → Listing × List ℕ
+tableListing t n out = (listing t n (length out), outputAfter (see t) n (listing t n (length out)) out)
+
+abbrev pub sheetListing : Sheet → ℕ → List ℕ → Listing × List ℕ
+sheetListing s n out = let l = listingOf (inKeyOrder s) n (length out) in (l, outputAfter (inKeyOrder s) n l out)
+
+-- two calls that may change places: they name different messages (a call that names none may change with any), or they are receipts from different answerers
+pub data MayChange : Arguments → Arguments → Type 0 where
+  otherMessage : {x y : Arguments} → ((k : Key) → message x ≡ some k → message y ≡ some k → ⊥) → MayChange x y
+  otherAnswerer : {g h : Header} {m n c d : ℕ} → ((w : Address) → answerer g ≡ some w → answerer h ≡ some w → ⊥) → MayChange (receiving g m c) (receiving h n d)
+
+-- the free line that a posting may use
+abbrev pub lineFor : Arguments → ℕ
+lineFor (posting h n count) = 1
+lineFor (receiving h n count) = 0
+lineFor (releasing k) = 0

@@ -1,0 +1,120 @@
+-- The parts of a valid record that a call names are there and legal. Assumes nothing.
+use Prim.Native.Nat.{ℕ, zero, suc, _<_, _≤_}
+use mathlib.Core.Path.{_≡_, refl, sym, _∙_}
+use mathlib.Core.Bool.{Bool, true, false, not, _&&_, _||_}
+use mathlib.Core.List.{List, [], _∷_}
+use lib.ListN.{length, take, getD, length-take}
+use lib.Seq.{getD-take}
+use lib.Dec.{leb, lit<, lit≤}
+use native.Mathlib.Omega.{arith}
+use Rattle.codec.specs.Codec.{Codec, first, number, flag, tested, present, viewed, _thenBy_, _closedBy_}
+use Rattle.codec.proofs.Fields.{and-left, and-right}
+use Rattle.codec.proofs.Sequences.{first-zero}
+use Rattle.codec.proofs.ListEnds.{whole-array, count-most, entry-legal}
+use Rattle.header.specs.Zero.{noAddress, noStamp, noResponse, noBlock}
+use Rattle.header.specs.Table.{maybe, address, addresses, originator, recipients, front, stamp, format, handling, optionalStamp, optionalDtg, optionalRequests, times, compliance, optionalText, response, optionalResponse, optionalReferences, block, blocks}
+use Rattle.header.specs.Rules as Rules
+use Rattle.header.specs.Rules.{_⇒_, ruleA, ruleB, ruleC, ruleD, ruleE, ruleF, ruleG, ruleH, ruleI, all, usedBlocks, settingOf, rulesKept}
+use Rattle.header.specs.declared.Setting.{Setting}
+use Rattle.header.specs.declared.Front.{Front}
+use Rattle.header.specs.declared.Block.{Block}
+use Rattle.header.specs.declared.Blocks.{Blocks}
+use Rattle.header.specs.declared.Header.{Header}
+use Rattle.header.proofs.Legal.{front-recipients, addressees-legal}
+
+there : {A : Type 0} (x : A) (c : Codec A) (b : Bool) (y : A) → b ≡ true → present x c b .check y ≡ 0 → c .check y ≡ 0
+unfolding present
+there x c b y e h = rw e at h
+
+originator-legal : (x : Front) → front .check x ≡ 0 → originator .check (x .originator) ≡ 0
+unfolding front viewed _thenBy_
+originator-legal x h =
+    let a = first-zero (first (number 4 2 2 2 .check (x .version)) (first (maybe 2 0 1 .check (x .compression)) (originator .check (x .originator)))) _ h .0 in
+    let b = first-zero (number 4 2 2 2 .check (x .version)) _ a .1 in
+    first-zero (maybe 2 0 1 .check (x .compression)) (originator .check (x .originator)) b .1
+
+pub front-originator : (x : Front) → front .check x ≡ 0 → x .originator .present ≡ true → address .check (x .originator .address) ≡ 0
+unfolding originator viewed _thenBy_ flag first
+front-originator x h e = there noAddress address (x .originator .present) (x .originator .address) e (originator-legal x h)
+
+pub front-recipient : (x : Front) (i : ℕ) → front .check x ≡ 0 → x .recipients .present ≡ true → i < x .recipients .addresses .count → address .check (getD (x .recipients .addresses .list) i noAddress) ≡ 0
+unfolding addresses viewed
+front-recipient x i h e l =
+    let g = addressees-legal (x .recipients) e (front-recipients x h) in
+    entry-legal noAddress address 16 15 (x .recipients .addresses .list) (x .recipients .addresses .count) g (lit≤ tt) i noAddress l
+
+-- a block's groups
+message-legal : (b : Block) → block .check b ≡ 0 → first (format .check (b .format)) (first (handling .check (b .handling)) (times .check (b .times))) ≡ 0
+unfolding block viewed _thenBy_
+message-legal b h = first-zero (first (format .check (b .format)) (first (handling .check (b .handling)) (times .check (b .times)))) _ h .0
+
+times-legal : (b : Block) → block .check b ≡ 0 → times .check (b .times) ≡ 0
+times-legal b h =
+    let c = first-zero (format .check (b .format)) _ (message-legal b h) .1 in
+    first-zero (handling .check (b .handling)) (times .check (b .times)) c .1
+
+origin-legal : (b : Block) → block .check b ≡ 0 → optionalStamp .check (b .times .origin) ≡ 0
+unfolding times viewed _thenBy_
+origin-legal b h = first-zero (optionalStamp .check (b .times .origin)) _ (times-legal b h) .0
+
+pub block-origin : (b : Block) → block .check b ≡ 0 → b .times .origin .present ≡ true → stamp .check (b .times .origin .stamp) ≡ 0
+unfolding optionalStamp viewed _thenBy_ flag first
+block-origin b h e = there noStamp stamp (b .times .origin .present) (b .times .origin .stamp) e (origin-legal b h)
+
+response-legal : (b : Block) → block .check b ≡ 0 → optionalResponse .check (b .response) ≡ 0
+unfolding block viewed _thenBy_
+response-legal b h =
+    let a = first-zero (first (format .check (b .format)) (first (handling .check (b .handling)) (times .check (b .times)))) _ h .1 in
+    first-zero (optionalResponse .check (b .response)) _ a .0
+
+response-there : (b : Block) → block .check b ≡ 0 → b .response .present ≡ true → response .check (b .response .response) ≡ 0
+unfolding optionalResponse viewed _thenBy_ flag first
+response-there b h e = there noResponse response (b .response .present) (b .response .response) e (response-legal b h)
+
+pub block-response : (b : Block) → block .check b ≡ 0 → b .response .present ≡ true → stamp .check (b .response .response .stamp) ≡ 0
+unfolding response viewed _thenBy_
+block-response b h e = first-zero (stamp .check (b .response .response .stamp)) _ (response-there b h e) .0
+
+all-at : {A : Type 0} (f : A → Bool) (l : List A) (d : A) (j : ℕ) → j < length l → all f l ≡ true → f (getD l j d) ≡ true
+unfolding all
+all-at f [] d j m e = absurd (omega arith)
+all-at f (x ∷ l) d zero m e = and-left (f x) (all f l) e
+all-at f (x ∷ l) d (suc j) m e = all-at f l d j (omega arith) (and-right (f x) (all f l) e)
+
+-- ---- a used block, by its number less one
+
+module _ (h : Header) (fields : blocks .check (h .blocks) ≡ 0) (rules : rulesKept h ≡ true) (i : ℕ) (l : i < h .blocks .count) where
+  abbrev here : Block
+  here = getD (h .blocks .list) i noBlock
+
+  pub block-legal : block .check here ≡ 0
+  unfolding blocks viewed
+  block-legal = entry-legal noBlock block 16 15 (h .blocks .list) (h .blocks .count) fields (lit≤ tt) i noBlock l
+
+  used : length (usedBlocks (h .blocks)) ≡ h .blocks .count
+  unfolding blocks viewed
+  used =
+      rw length-take
+      (omega (arith, whole-array noBlock block 16 15 (h .blocks .list) (h .blocks .count) fields, count-most noBlock block 16 15 (h .blocks .list) (h .blocks .count) fields))
+
+  at : (f : Block → Bool) → all f (usedBlocks (h .blocks)) ≡ true → f here ≡ true
+  at f e = rw (getD-take (h .blocks .count) (h .blocks .list) i noBlock l) at (all-at f (usedBlocks (h .blocks)) noBlock i (omega (arith, used)) e)
+
+  -- each of the rules, by its place
+  rule : (j : ℕ) → j < 9 → getD Rules.rules j ruleA (settingOf h) here ≡ true
+  unfolding rulesKept
+  rule j m = at (getD Rules.rules j ruleA (settingOf h)) (all-at (λ r. all (r (settingOf h)) (usedBlocks (h .blocks))) Rules.rules ruleA j m rules)
+
+  -- a block with requests has an originator
+  pub originator-there : here .times .requests .present ≡ true → h .front .originator .present ≡ true
+  unfolding ruleA
+  originator-there e = go (h .front .originator .present) (rule 0 (lit< tt))
+    where
+      go : (b : Bool) → (not b ⇒ not (here .times .requests .present)) ≡ true → b ≡ true
+      go true r = refl
+      go false r = rw e at r
+
+  -- and, where one is set, an originator's DTG
+  pub origin-there : here .times .requests .present ≡ true → (here .times .requests .requests .machine || here .times .requests .requests .acknowledge || here .times .requests .requests .reply) ≡ true → here .times .origin .present ≡ true
+  unfolding ruleI
+  origin-there e a = rw (e, a) at (rule 8 (lit< tt))
