@@ -1,4 +1,5 @@
 mod Alike
 mod Legal
+mod Told
 pub mod Names
 pub mod SheetIs

@@ -1,3 +1,4 @@
 pub mod Arguments
 pub mod Sheet
 pub mod Calls
+pub mod Told
