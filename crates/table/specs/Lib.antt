@@ -1,2 +1,4 @@
 pub mod Rows
 pub mod WellFormed
+pub mod Zero
+pub mod Search

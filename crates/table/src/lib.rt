@@ -6,6 +6,10 @@ use header::Address;
 use header::Requests;
 use order::Key;
 
+pub mod rows;
+pub mod well;
+pub mod zero;
+
 // A recipient of a row, with the code that settled each request; 0 where there is none.
 #[repr(C)]
 pub struct Recipient {
@@ -29,4 +33,10 @@ pub struct Row {
 pub struct Table {
     pub rows: [Row; 32],
     pub count: u32,
+}
+
+// Where a row or a recipient stands, or where it would stand while it is not held.
+pub struct Position {
+    pub at: usize,
+    pub held: bool,
 }

@@ -1,0 +1,45 @@
+-- `table::well::rows_in_order` meets its contract. The invariant: the rows so far are in order. Assumes nothing.
+use borrow.Author.Needs.{needs}
+use borrow.Author.Tests.{not-true, not-false}
+use Prim.Native.Nat.{_-_}
+use mathlib.Core.Path.{_≡_, sym, _∙_}
+use native.Mathlib.Omega.{arith}
+use lib.ListN.{length}
+use Rattle.codec.proofs.ListLaws.{unmapped}
+use Rattle.order.specs.Values.{keyOf, byKey}
+use Rattle.table.proofs.Tests.{Rising, rising-none, rising-more, rising-not, rising-all}
+use Rattle.table.proofs.well.rows_in_order.Statement.{statement}
+use Rattle.table.proofs.well.rows_in_order.Tie as tie
+
+abbrev Inv-loop : tie.InvT-loop
+Inv-loop t n i₀ i = Rising byKey (λ r. keyOf (r .key)) n (t .rows) i
+
+abbrev μ-loop : tie.MeasureT-loop
+μ-loop t n i₀ i = n - i
+
+loop-holds : tie.Need-loop-holds Inv-loop μ-loop
+loop-holds c = rising-none _ _ _ _
+
+mul-x : tie.Need-mul-x Inv-loop μ-loop
+mul-x c = let h : length (c .before .before .args .t1 .rows) ≡ 32 = search (needs, unmapped) in search needs
+
+element-copy-out-x : tie.Need-element-copy-out-x Inv-loop μ-loop
+element-copy-out-x c = let h : length (c .before .before .args .t1 .rows) ≡ 32 = search (needs, unmapped) in search needs
+
+mul-y : tie.Need-mul-y Inv-loop μ-loop
+mul-y c = let h : length (c .before .before .before .args .t1 .rows) ≡ 32 = search (needs, unmapped) in search needs
+
+element-copy-out-y : tie.Need-element-copy-out-y Inv-loop μ-loop
+element-copy-out-y c = let h : length (c .before .before .before .args .t1 .rows) ≡ 32 = search (needs, unmapped) in search needs
+
+returns : tie.Need-returns Inv-loop μ-loop
+returns c = let h : length (c .before .before .before .before .before .before .args .t1 .rows) ≡ 32 = search (needs, unmapped) in rising-not _ _ _ _ _ (c .before .before .before .before .before .loop .inv) (omega arith) _ (omega arith) (sym (c .before .key-before .ensures) ∙ not-true _ (c .if1 .taken))
+
+loop-again : tie.Need-loop-again Inv-loop μ-loop
+loop-again c = let h : length (c .before .before .before .before .before .before .args .t1 .rows) ≡ 32 = search (needs, unmapped) in rising-more _ _ _ _ _ (c .before .before .before .before .before .loop .inv) (omega arith) _ (omega arith) (sym (c .before .key-before .ensures) ∙ not-false _ (c .if1 .left))
+
+returns-2 : tie.Need-returns-2 Inv-loop μ-loop
+returns-2 c = let h : length (c .before .before .args .t1 .rows) ≡ 32 = search (needs, unmapped) in rising-all _ _ _ _ _ (c .before .loop .inv) (omega arith) (omega arith)
+
+pub rows-in-order-spec : {M : Type 1} → statement M
+rows-in-order-spec = tie.close (tie.spec Inv-loop μ-loop (λ c. search needs) loop-holds (λ c. search needs) mul-x element-copy-out-x (λ c. search needs) mul-y element-copy-out-y (λ c κs. search needs) returns (λ c. search needs) (λ c. search needs) loop-again returns-2)

@@ -1,0 +1,307 @@
+// Whether a table is well formed: what a table that comes from outside has to pass before a call
+// changes it.
+ghost use mathlib.Core.Path.{_≡_};
+ghost use mathlib.Core.Bool.{true, false, not, _&&_, _||_};
+ghost use mathlib.Core.List.{map};
+ghost use Prim.Native.Nat.{_≤_};
+ghost use lib.Dec.{eqb};
+ghost use Rattle.codec.specs.Refusals.{checkNo};
+ghost use Rattle.header.specs.Rules.{_⇒_, all};
+ghost use Rattle.order.specs.Order.{choose};
+ghost use Rattle.order.specs.Requests.{answeredBy};
+ghost use Rattle.order.specs.Values.{addressOf, keyOf, byAddress, byKey, comparisonOf};
+ghost use Rattle.table.specs.Rows.{usedRecipients, usedRows};
+ghost use Rattle.table.specs.Search.{keysOf, addressesOf};
+ghost use Rattle.table.specs.WellFormed.{keyFault, fits, unanswered, increasing, recipientFine, rowFine, wellFormed};
+use crate::Recipient;
+use crate::Row;
+use crate::Table;
+use checker::address::check_address;
+use checker::dtg::check_stamp;
+use codec::Check;
+use codec::earlier;
+use header::Address;
+use header::Requests;
+use order::Comparison;
+use order::Key;
+use order::compare_addresses;
+use order::compare_keys;
+
+// The first refusal of a key.
+pub fn check_key(k: Key) -> Check
+    ensures { λ r. ⌜ checkNo r ≡ keyFault k ⌝ }
+{
+    let address = check_address(k.address);
+    let stamp = check_stamp(k.stamp);
+    earlier(address, stamp)
+}
+
+fn is_fine(c: Check) -> bool
+    ensures { λ r. ⌜ r ≡ eqb (checkNo c) 0 ⌝ }
+{
+    match c {
+        Check::Fine => true,
+        Check::Bad(_) => false,
+    }
+}
+
+fn is_less(c: Comparison) -> bool
+    ensures { λ r. ⌜ r ≡ choose (comparisonOf c) true false false ⌝ }
+{
+    match c {
+        Comparison::Less => true,
+        Comparison::Same => false,
+        Comparison::Greater => false,
+    }
+}
+
+// 1 answers a machine acknowledge request, and so does 2, which answers every request.
+fn machine_fits(asked: bool, code: u32) -> bool
+    ensures { λ r. ⌜ r ≡ fits asked (λ c. answeredBy c .machine) code ⌝ }
+{
+    if code == 0 {
+        return true;
+    }
+    if asked {
+        if code == 1 {
+            return true;
+        }
+        return code == 2;
+    }
+    false
+}
+
+// 3 answers an operator acknowledge request.
+fn acknowledge_fits(asked: bool, code: u32) -> bool
+    ensures { λ r. ⌜ r ≡ fits asked (λ c. answeredBy c .acknowledge) code ⌝ }
+{
+    if code == 0 {
+        return true;
+    }
+    if asked {
+        if code == 3 {
+            return true;
+        }
+        return code == 2;
+    }
+    false
+}
+
+// 4, 5 and 6 answer an operator reply request.
+fn reply_fits(asked: bool, code: u32) -> bool
+    ensures { λ r. ⌜ r ≡ fits asked (λ c. answeredBy c .reply) code ⌝ }
+{
+    if code == 0 {
+        return true;
+    }
+    if asked {
+        if code == 4 {
+            return true;
+        }
+        if code == 5 {
+            return true;
+        }
+        if code == 6 {
+            return true;
+        }
+        return code == 2;
+    }
+    false
+}
+
+// Each code is at an asked request that it answers.
+fn codes_fit(asked: Requests, r: Recipient) -> bool
+    ensures { λ s. ⌜ s ≡ fits (asked .machine) (λ c. answeredBy c .machine) (r .machine) && fits (asked .acknowledge) (λ c. answeredBy c .acknowledge) (r .acknowledge) && fits (asked .reply) (λ c. answeredBy c .reply) (r .reply) ⌝ }
+{
+    if !machine_fits(asked.machine, r.machine) {
+        return false;
+    }
+    if !acknowledge_fits(asked.acknowledge, r.acknowledge) {
+        return false;
+    }
+    reply_fits(asked.reply, r.reply)
+}
+
+fn any_two(r: Recipient) -> bool
+    ensures { λ s. ⌜ s ≡ eqb (r .machine) 2 || eqb (r .acknowledge) 2 || eqb (r .reply) 2 ⌝ }
+{
+    let machine = r.machine;
+    if machine == 2 {
+        return true;
+    }
+    let acknowledge = r.acknowledge;
+    if acknowledge == 2 {
+        return true;
+    }
+    let reply = r.reply;
+    reply == 2
+}
+
+fn is_open(asked: bool, code: u32) -> bool
+    ensures { λ r. ⌜ r ≡ unanswered asked code ⌝ }
+{
+    if asked {
+        return code == 0;
+    }
+    false
+}
+
+// A request of the recipient is still open.
+fn any_open(asked: Requests, r: Recipient) -> bool
+    ensures { λ s. ⌜ s ≡ unanswered (asked .machine) (r .machine) || unanswered (asked .acknowledge) (r .acknowledge) || unanswered (asked .reply) (r .reply) ⌝ }
+{
+    if is_open(asked.machine, r.machine) {
+        return true;
+    }
+    if is_open(asked.acknowledge, r.acknowledge) {
+        return true;
+    }
+    is_open(asked.reply, r.reply)
+}
+
+// 2 settles every request at once: beside it none is open.
+pub fn recipient_fine(asked: Requests, r: Recipient) -> bool
+    ensures { λ s. ⌜ s ≡ recipientFine asked r ⌝ }
+{
+    if !is_fine(check_address(r.address)) {
+        return false;
+    }
+    if !codes_fit(asked, r) {
+        return false;
+    }
+    if any_two(r) {
+        return !any_open(asked, r);
+    }
+    true
+}
+
+fn address_before(a: Address, b: Address) -> bool
+    ensures { λ r. ⌜ r ≡ choose (byAddress (addressOf a) (addressOf b)) true false false ⌝ }
+{
+    is_less(compare_addresses(a, b))
+}
+
+fn key_before(a: Key, b: Key) -> bool
+    ensures { λ r. ⌜ r ≡ choose (byKey (keyOf a) (keyOf b)) true false false ⌝ }
+{
+    is_less(compare_keys(a, b))
+}
+
+fn recipients_fine(r: Row) -> bool
+    requires { ⌜ r .count ≤ 16 ⌝ }
+    ensures { λ s. ⌜ s ≡ all (recipientFine (r .asked)) (usedRecipients r) ⌝ }
+{
+    let asked = r.asked;
+    let n = r.count as usize;
+    let mut i: usize = 0;
+    while i < n {
+        let x = r.recipients[i];
+        if !recipient_fine(asked, x) {
+            return false;
+        }
+        i += 1;
+    }
+    true
+}
+
+// Each recipient before the next: no address twice.
+fn recipients_in_order(r: Row) -> bool
+    requires { ⌜ r .count ≤ 16 ⌝ }
+    ensures { λ s. ⌜ s ≡ increasing byAddress (addressesOf r) ⌝ }
+{
+    let n = r.count as usize;
+    let mut i: usize = 0;
+    while i + 1 < n {
+        let x = r.recipients[i];
+        let y = r.recipients[i + 1];
+        if !address_before(x.address, y.address) {
+            return false;
+        }
+        i += 1;
+    }
+    true
+}
+
+fn any_asked(a: Requests) -> bool
+    ensures { λ r. ⌜ r ≡ a .machine || a .acknowledge || a .reply ⌝ }
+{
+    let machine = a.machine;
+    if machine {
+        return true;
+    }
+    let acknowledge = a.acknowledge;
+    if acknowledge {
+        return true;
+    }
+    a.reply
+}
+
+pub fn row_fine(r: Row) -> bool
+    ensures { λ s. ⌜ s ≡ rowFine r ⌝ }
+{
+    if !is_fine(check_key(r.key)) {
+        return false;
+    }
+    if !any_asked(r.asked) {
+        return false;
+    }
+    let count = r.count;
+    if count < 1 {
+        return false;
+    }
+    if 16 < count {
+        return false;
+    }
+    if !recipients_fine(r) {
+        return false;
+    }
+    recipients_in_order(r)
+}
+
+fn rows_fine(t: Table) -> bool
+    requires { ⌜ t .count ≤ 32 ⌝ }
+    ensures { λ r. ⌜ r ≡ all rowFine (usedRows t) ⌝ }
+{
+    let n = t.count as usize;
+    let mut i: usize = 0;
+    while i < n {
+        let row = t.rows[i];
+        if !row_fine(row) {
+            return false;
+        }
+        i += 1;
+    }
+    true
+}
+
+// Each row before the next: no key twice.
+fn rows_in_order(t: Table) -> bool
+    requires { ⌜ t .count ≤ 32 ⌝ }
+    ensures { λ r. ⌜ r ≡ increasing byKey (keysOf t) ⌝ }
+{
+    let n = t.count as usize;
+    let mut i: usize = 0;
+    while i + 1 < n {
+        let x = t.rows[i];
+        let y = t.rows[i + 1];
+        if !key_before(x.key, y.key) {
+            return false;
+        }
+        i += 1;
+    }
+    true
+}
+
+// For any table at all: a count over 32 is refused before a row is looked at.
+pub fn well_formed(t: Table) -> bool
+    ensures { λ r. ⌜ r ≡ wellFormed t ⌝ }
+{
+    let count = t.count;
+    if 33 < count {
+        return false;
+    }
+    if !rows_fine(t) {
+        return false;
+    }
+    rows_in_order(t)
+}
