@@ -297,7 +297,7 @@ pub fn well_formed(t: Table) -> bool
     ensures { λ r. ⌜ r ≡ wellFormed t ⌝ }
 {
     let count = t.count;
-    if 33 < count {
+    if 32 < count {
         return false;
     }
     if !rows_fine(t) {
