@@ -4,7 +4,6 @@ use codec::Fault;
 use table::Table;
 
 pub mod arguments;
-pub mod row;
 
 // Why a call is refused. The record's own faults, and a key's, are the writer's.
 pub enum PendingFault {
