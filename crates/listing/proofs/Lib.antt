@@ -1,0 +1,6 @@
+pub mod Composing
+mod Decimals
+mod Lines
+mod Texts
+mod Ways
+pub mod Bounded

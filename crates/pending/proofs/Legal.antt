@@ -10,6 +10,8 @@ use native.Mathlib.Omega.{arith}
 use Rattle.codec.specs.Codec.{Codec, first, number, flag, tested, present, viewed, _thenBy_, _closedBy_}
 use Rattle.codec.proofs.Fields.{and-left, and-right}
 use Rattle.codec.proofs.Sequences.{first-zero}
+use Rattle.codec.proofs.ListLaws.{fine-legal}
+use borrow.Author.Tests.{leb-true}
 use Rattle.codec.proofs.ListEnds.{whole-array, count-most, entry-legal}
 use Rattle.header.specs.Zero.{noAddress, noStamp, noResponse, noBlock}
 use Rattle.header.specs.Table.{maybe, address, addresses, originator, recipients, front, stamp, format, handling, optionalStamp, optionalDtg, optionalRequests, times, compliance, optionalText, response, optionalResponse, optionalReferences, block, blocks}
@@ -80,6 +82,24 @@ unfolding all
 all-at f [] d j m e = absurd (omega arith)
 all-at f (x ∷ l) d zero m e = and-left (f x) (all f l) e
 all-at f (x ∷ l) d (suc j) m e = all-at f l d j (omega arith) (and-right (f x) (all f l) e)
+
+-- a receipt's code is a number from 1 to 6
+compliance-legal : (b : Block) → block .check b ≡ 0 → b .response .present ≡ true → compliance .check (b .response .response .compliance) ≡ 0
+unfolding response viewed _thenBy_
+compliance-legal b h e =
+    let a = first-zero (stamp .check (b .response .response .stamp)) _ (response-there b h e) .1 in
+    first-zero (compliance .check (b .response .response .compliance)) _ a .0
+
+code-legal : (b : Block) → block .check b ≡ 0 → b .response .present ≡ true → number 3 1 6 3 .check (b .response .response .compliance .code) ≡ 0
+unfolding compliance viewed _thenBy_
+code-legal b h e = first-zero (number 3 1 6 3 .check (b .response .response .compliance .code)) _ (compliance-legal b h e) .0
+
+pub code-some : (b : Block) → block .check b ≡ 0 → b .response .present ≡ true → 0 < b .response .response .compliance .code
+unfolding number
+code-some b h e =
+    let c = b .response .response .compliance .code in
+    let t = fine-legal (leb 1 c && leb c 6) 0 3 (lit< tt) (code-legal b h e) .0 in
+    omega (arith, leb-true 1 c (and-left (leb 1 c) (leb c 6) t))
 
 -- ---- a used block, by its number less one
 

@@ -4,11 +4,14 @@ use mathlib.Core.Path.{_≡_, refl, ap, sym, _∙_}
 use mathlib.Core.Bool.{Bool, true, false, _&&_, _||_}
 use mathlib.Core.List.{List, [], _∷_}
 use lib.ListN.{length, getD}
+use lib.Dec.{lit<}
 use native.Mathlib.Omega.{arith}
 use denote.Enum.Declared.{tagOf}
 use Rattle.codec.specs.Answer.{pick}
 use Rattle.codec.specs.Codec.{first}
-use Rattle.codec.specs.Refusals.{faultNo}
+use Rattle.codec.specs.Refusals.{checkNo, faultNo}
+use Rattle.codec.specs.declared.Check.{Check}
+use Rattle.codec.proofs.Check as check
 use Rattle.codec.specs.declared.Fault.{Fault}
 use Rattle.codec.proofs.Told.{fault-positive, first-refusal}
 use Rattle.bits.specs.declared.BitPlace.{BitPlace}
@@ -20,7 +23,11 @@ use Rattle.writer.proofs.Written as written
 use Rattle.writer.proofs.Ways.{not-done}
 use Rattle.header.specs.Zero.{noBlock}
 use Rattle.pending.specs.Arguments.{hasBlock, blockAt}
-use Rattle.pending.specs.Told.{writtenNo}
+use Rattle.pending.specs.Told.{pendingNo, answerNo, writtenNo}
+use Rattle.pending.specs.declared.PendingFault.{PendingFault}
+use Rattle.pending.specs.declared.PendingFault.the-variants.{Record, NothingAsked, NoRecipient, KeyHeld, TableFull, NoResponse, NotOneRecipient, NoRow, NotARecipient, NothingOpen, NoBlock, IllFormed}
+use Rattle.pending.specs.declared.Answer.{Answer}
+use Rattle.pending.proofs.Answer as answer
 
 -- ---- tests of flags
 
@@ -46,7 +53,7 @@ pub asks-third : (p m o x : Bool) → p ≡ true → m ≡ false → o ≡ false
 asks-third p m o x e f g = rw (e, f, g)
 
 -- a cell of a list does not depend on what stands for a missing one
-any-default : {A : Type 0} (l : List A) (i : ℕ) (d e : A) → i < length l → getD l i d ≡ getD l i e
+pub any-default : {A : Type 0} (l : List A) (i : ℕ) (d e : A) → i < length l → getD l i d ≡ getD l i e
 any-default [] i d e h = absurd (omega arith)
 any-default (x ∷ l) zero d e h = refl
 any-default (x ∷ l) (suc i) d e h = any-default l i d e (omega arith)
@@ -115,3 +122,46 @@ module _ (f : ℕ) (a b c : Bool) (y z : ℕ) where
         pub at-none : c ≡ true → 0 ≡ chain
         unfolding first
         at-none d = rw (e, t, u, d)
+
+-- ---- a key's check
+
+pub check-fine : (x : Check) → tagOf check.the-type x ≡ 0 → 0 ≡ checkNo x
+unfolding checkNo
+check-fine Check.Fine t = refl
+check-fine (Check.Bad f) t = absurd (omega arith)
+
+pub check-bad : (x : Check) → tagOf check.the-type x ≡ 1 → 0 < checkNo x
+unfolding checkNo
+check-bad Check.Fine t = absurd (omega arith)
+check-bad (Check.Bad f) t = fault-positive f
+
+pub check-fault : (x : Check) (f : Fault) → x ≡ Check.Bad f → faultNo f ≡ checkNo x
+unfolding checkNo
+check-fault x f e = rw e
+
+-- ---- an answer
+
+pub answer-done : (x : Answer) → tagOf answer.the-type x ≡ 0 → answerNo x ≡ 0
+unfolding answerNo
+answer-done Answer.Done t = refl
+answer-done (Answer.Refused f p) t = absurd (omega arith)
+
+pub fault-no : (f : PendingFault) → 0 < pendingNo f
+unfolding pendingNo
+fault-no (Record f) = fault-positive f
+fault-no NothingAsked = lit< tt
+fault-no NoRecipient = lit< tt
+fault-no KeyHeld = lit< tt
+fault-no TableFull = lit< tt
+fault-no NoResponse = lit< tt
+fault-no NotOneRecipient = lit< tt
+fault-no NoRow = lit< tt
+fault-no NotARecipient = lit< tt
+fault-no NothingOpen = lit< tt
+fault-no NoBlock = lit< tt
+fault-no IllFormed = lit< tt
+
+pub answer-bad : (x : Answer) → tagOf answer.the-type x ≡ 1 → 0 < answerNo x
+unfolding answerNo
+answer-bad Answer.Done t = absurd (omega arith)
+answer-bad (Answer.Refused f p) t = fault-no f

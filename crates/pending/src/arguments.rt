@@ -2,14 +2,14 @@
 ghost use mathlib.Core.Path.{_≡_};
 ghost use mathlib.Core.Bool.{true, _&&_};
 ghost use Prim.Native.Nat.{_≤_};
-ghost use Rattle.header.specs.Table.{blocks};
-ghost use Rattle.writer.specs.Writing.{faultOf};
+ghost use Rattle.codec.specs.Refusals.{checkNo};
 ghost use Rattle.pending.specs.Arguments.{hasBlock, blockAt, asks, someRecipient, oneRecipient, postingFault, receiptFault};
 ghost use Rattle.pending.specs.Told.{pendingNo, answerNo, answerPlace, writtenNo};
 use crate::Answer;
 use crate::PendingFault;
 use bits::BitPlace;
 use bits::OctetSize;
+use codec::Check;
 use header::Block;
 use header::Header;
 use writer::Written;
@@ -27,6 +27,16 @@ fn by_record(w: Written) -> Answer
     match w {
         Written::Done(_) => Answer::Done,
         Written::Refused(fault, _) => refusal(PendingFault::Record(fault)),
+    }
+}
+
+// A key's own fault.
+pub fn by_check(fault: Check) -> Answer
+    ensures { λ r. ⌜ (answerNo r ≡ checkNo fault) × (answerPlace r ≡ 0) ⌝ }
+{
+    match fault {
+        Check::Fine => Answer::Done,
+        Check::Bad(f) => refusal(PendingFault::Record(f)),
     }
 }
 

@@ -1,9 +1,31 @@
 // Posting, receipt and release on the table of pending messages.
+ghost use mathlib.Core.Path.{_≡_};
+ghost use Rattle.pending.specs.Arguments.{posting, receiving, releasing};
+ghost use Rattle.pending.specs.Calls.{Did};
+ghost use Rattle.pending.specs.Told.{answerNo, answerPlace};
+use arguments::by_check;
+use arguments::check_posting;
+use arguments::check_receipt;
+use arguments::refusal;
 use bits::BitPlace;
+use bits::OctetSize;
+use codec::Check;
 use codec::Fault;
+use header::Address;
+use header::Header;
+use header::Stamp;
+use order::Key;
 use table::Table;
+use table::rows::find_row;
+use table::rows::insert_row;
+use table::rows::remove_row;
+use table::rows::replace_row;
+use table::well::check_key;
+use table::well::well_formed;
 
 pub mod arguments;
+pub mod row;
+pub mod settled;
 
 // Why a call is refused. The record's own faults, and a key's, are the writer's.
 pub enum PendingFault {
@@ -31,4 +53,147 @@ pub enum Answer {
 pub struct TableAfter {
     pub answer: Answer,
     pub table: Table,
+}
+
+// A message's key, from its parts.
+fn key_of(address: Address, stamp: Stamp) -> Key
+    ensures { λ r. ⌜ (r .address ≡ address) × (r .stamp ≡ stamp) ⌝ }
+{
+    Key {
+        address: address,
+        stamp: stamp,
+    }
+}
+
+// Posts a block of a message: a row for it, unless its key is held or no line is free.
+pub fn post(t: Table, h: Header, number: u32, count: OctetSize) -> TableAfter
+    ensures { λ r. ⌜ Did (posting h number (count .0)) t (answerNo (r .answer)) (r .table) × (answerPlace (r .answer) ≡ 0) ⌝ }
+{
+    if !well_formed(t) {
+        let answer = refusal(PendingFault::IllFormed);
+        return TableAfter {
+            answer: answer,
+            table: t,
+        };
+    }
+    let answer = check_posting(h, number, count);
+    let Answer::Done = answer else {
+        return TableAfter {
+            answer: answer,
+            table: t,
+        };
+    };
+    let block = arguments::block_at(h, number);
+    let from = h.front.originator.address;
+    let key = key_of(from, block.times.origin.stamp);
+    let place = find_row(t, key);
+    let held = place.held;
+    if held {
+        let answer = refusal(PendingFault::KeyHeld);
+        return TableAfter {
+            answer: answer,
+            table: t,
+        };
+    }
+    if 32 <= t.count {
+        let answer = refusal(PendingFault::TableFull);
+        return TableAfter {
+            answer: answer,
+            table: t,
+        };
+    }
+    let row = row::new_row(
+        key,
+        block.times.requests.requests,
+        h.front.recipients.addresses,
+    );
+    let after = insert_row(t, place.at, row);
+    TableAfter {
+        answer: Answer::Done,
+        table: after,
+    }
+}
+
+// Settles what a receipt answers, in the row with its key, at its answerer, with its code.
+pub fn receipt(t: Table, h: Header, number: u32, count: OctetSize) -> TableAfter
+    ensures { λ r. ⌜ Did (receiving h number (count .0)) t (answerNo (r .answer)) (r .table) × (answerPlace (r .answer) ≡ 0) ⌝ }
+{
+    if !well_formed(t) {
+        let answer = refusal(PendingFault::IllFormed);
+        return TableAfter {
+            answer: answer,
+            table: t,
+        };
+    }
+    let answer = check_receipt(h, number, count);
+    let Answer::Done = answer else {
+        return TableAfter {
+            answer: answer,
+            table: t,
+        };
+    };
+    let block = arguments::block_at(h, number);
+    let to = h.front.recipients.addresses.list;
+    let address = to[0];
+    let key = key_of(address, block.response.response.stamp);
+    let place = find_row(t, key);
+    let held = place.held;
+    if !held {
+        let answer = refusal(PendingFault::NoRow);
+        return TableAfter {
+            answer: answer,
+            table: t,
+        };
+    }
+    let at = place.at;
+    let row = t.rows[at];
+    let from = h.front.originator.address;
+    let after = settled::settled_row(row, from, block.response.response.compliance.code);
+    let answer = after.answer;
+    let Answer::Done = answer else {
+        return TableAfter {
+            answer: answer,
+            table: t,
+        };
+    };
+    let next = replace_row(t, at, after.row);
+    TableAfter {
+        answer: answer,
+        table: next,
+    }
+}
+
+// Takes a message out of the table.
+pub fn release(t: Table, key: Key) -> TableAfter
+    ensures { λ r. ⌜ Did (releasing key) t (answerNo (r .answer)) (r .table) × (answerPlace (r .answer) ≡ 0) ⌝ }
+{
+    if !well_formed(t) {
+        let answer = refusal(PendingFault::IllFormed);
+        return TableAfter {
+            answer: answer,
+            table: t,
+        };
+    }
+    let fault = check_key(key);
+    let Check::Fine = fault else {
+        let answer = by_check(fault);
+        return TableAfter {
+            answer: answer,
+            table: t,
+        };
+    };
+    let place = find_row(t, key);
+    let held = place.held;
+    if !held {
+        let answer = refusal(PendingFault::NoRow);
+        return TableAfter {
+            answer: answer,
+            table: t,
+        };
+    }
+    let after = remove_row(t, place.at);
+    TableAfter {
+        answer: Answer::Done,
+        table: after,
+    }
 }

@@ -1,5 +1,5 @@
 -- Strictly increasing keys are keys in order, and the other way round. Assumes nothing.
-use Prim.Native.Nat.{ℕ, Ordering, Ordering·lt as lt, Ordering·eq as eq, Ordering·gt as gt}
+use Prim.Native.Nat.{Ordering, Ordering·lt as lt, Ordering·eq as eq, Ordering·gt as gt}
 use mathlib.Core.Path.{_≡_, refl, sym, _∙_}
 use mathlib.Core.Bool.{true, false}
 use mathlib.Core.List.{List, [], _∷_, map}

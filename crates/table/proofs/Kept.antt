@@ -1,23 +1,25 @@
--- Changes at the place where a search stopped keep a list fine and in order, and with that a table well formed. Assumes nothing.
+-- Changes at the place where a search stopped keep a list fine and in order, with that a table well formed and a row fine. Assumes nothing.
 use Prim.Native.Nat.{ℕ, zero, suc, _+_, _<_, _≤_, Ordering}
-use mathlib.Core.Path.{_≡_, refl, ap, sym, subst, _∙_}
-use mathlib.Core.Bool.{Bool, true, false, _&&_}
+use mathlib.Core.Path.{_≡_, ap, subst, _∙_}
+use mathlib.Core.Bool.{Bool, true, false, _||_}
 use mathlib.Core.List.{List, [], _∷_, _++_, map}
 use mathlib.Core.Option.{none, some}
 use lib.ListN.{take, drop, set}
 use native.Mathlib.Numerals.{add-one}
 use native.Mathlib.Omega.{arith}
 use Rattle.header.specs.Rules.{all}
+use Rattle.header.specs.declared.Requests.{Requests}
 use Rattle.order.specs.Keyed.{InOrder}
-use Rattle.order.specs.Values.{Key, keyOf, byKey}
-use Rattle.order.proofs.Orders.{Order, by-key}
+use Rattle.order.specs.Values.{addressOf, Key, keyOf, byAddress, byKey}
+use Rattle.order.proofs.Orders.{Order, by-address, by-key}
 use Rattle.order.proofs.Keyed.{sorted, put-in-order}
-use Rattle.table.specs.Rows.{rowOf, usedRows}
-use Rattle.table.specs.Search.{Stopped, keysOf}
-use Rattle.table.specs.WellFormed.{increasing, rowFine, wellFormed}
+use Rattle.table.specs.Rows.{recipientOf, usedRecipients, rowOf, usedRows}
+use Rattle.table.specs.Search.{Stopped, keysOf, addressesOf}
+use Rattle.table.specs.WellFormed.{keyFault, increasing, recipientFine, rowFine, wellFormed}
+use Rattle.table.specs.declared.Recipient.{Recipient}
 use Rattle.table.specs.declared.Row.{Row}
 use Rattle.table.specs.declared.Table.{Table}
-use Rattle.table.proofs.Parts.{and-both, FineTable, fine-table, well-formed-table}
+use Rattle.table.proofs.Parts.{and-both, fine-table, well-formed-table, fine-row, row-fine}
 use Rattle.table.proofs.InOrder.{increasing-in-order, in-order-increasing}
 use Rattle.table.proofs.Moves.{put-inserts, put-replaces, put-removes}
 
@@ -103,3 +105,26 @@ module _ (t r : Table) (at : ℕ) (well : wellFormed t ≡ true) where
       let p = fine-table t well in
       let c : t .count ≤ 32 = p .fits in
       kept _ (e ∙ ap (λ (n : ℕ). take at (usedRows t) ++ drop n (usedRows t)) (add-one at)) (omega arith) (all-removed rowFine (usedRows t) at (p .rows)) (order-removed by-key rowOf k (usedRows t) at s (p .order))
+
+-- ---- a row
+
+-- a recipient replaced by a fine one with the same address
+pub replaced-row-fine : (row r : Row) (at : ℕ) (x : Recipient) → rowFine row ≡ true → recipientFine (row .asked) x ≡ true
+    → Stopped byAddress (addressOf (x .address)) (addressesOf row) at true → r .key ≡ row .key → r .asked ≡ row .asked → r .count ≡ row .count
+    → usedRecipients r ≡ set (usedRecipients row) at x → rowFine r ≡ true
+replaced-row-fine row r at x f g s k a n e =
+    let p = fine-row row f in
+    let least : 1 ≤ row .count = p .least in
+    let most : row .count ≤ 16 = p .most in
+    row-fine r (record {
+      key = ap keyFault k ∙ p .key;
+      asked = ap (λ (q : Requests). q .machine || q .acknowledge || q .reply) a ∙ p .asked;
+      least = omega arith;
+      most = omega arith;
+      recipients =
+          ap (λ (q : Requests). all (recipientFine q) (usedRecipients r)) a ∙ ap (all (recipientFine (row .asked))) e
+          ∙ all-replaced (recipientFine (row .asked)) x (usedRecipients row) at g (p .recipients);
+      order =
+          ap (λ (m : List Recipient). increasing byAddress (map (λ y. addressOf (y .address)) m)) e
+          ∙ order-replaced by-address recipientOf x (usedRecipients row) at s (p .order);
+    })

@@ -1,10 +1,10 @@
--- A row put in, replaced or taken out where a search for its key stopped: the one change of a list of keys with values. Assumes nothing.
-use Prim.Native.Nat.{ℕ, zero, suc, _+_, _<_, _≤_, Ordering, Ordering·lt as lt, Ordering·eq as eq, Ordering·gt as gt}
+-- A row or a recipient put in, replaced or taken out where a search for its key stopped: the one change of a list of keys with values. Assumes nothing.
+use Prim.Native.Nat.{ℕ, zero, suc, _+_, Ordering}
 use mathlib.Core.Path.{_≡_, refl, ap, sym, _∙_}
 use mathlib.Core.Bool.{true, false}
 use mathlib.Core.List.{List, [], _∷_, _++_, map}
 use mathlib.Core.Option.{none, some}
-use lib.ListN.{length, take, drop, set}
+use lib.ListN.{take, drop, set}
 use native.Mathlib.Numerals.{add-one}
 use native.Mathlib.Omega.{arith}
 use Rattle.order.specs.Keyed.{put, alter}

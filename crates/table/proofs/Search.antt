@@ -1,13 +1,12 @@
 -- Where a search stopped tells whether the key is held, and what it holds. Assumes nothing.
-use Prim.Native.Nat.{ℕ, zero, suc, _<_, _≤_, Ordering, Ordering·lt as lt, Ordering·eq as eq, Ordering·gt as gt}
-use mathlib.Core.Path.{_≡_, refl, ap, sym, _∙_}
+use Prim.Native.Nat.{ℕ, zero, suc, _<_, _≤_, Ordering}
+use mathlib.Core.Path.{_≡_, refl, ap, _∙_}
 use mathlib.Core.Bool.{Bool, true, false}
 use mathlib.Core.List.{List, [], _∷_, map}
 use mathlib.Core.Option.{none, some}
 use lib.ListN.{length, take, getD, length-map, length-take}
 use lib.Seq.{getD-take, length-take-le}
 use native.Mathlib.Omega.{arith}
-use Rattle.header.specs.declared.Address.{Address as DeclaredAddress}
 use Rattle.order.specs.Keyed.{find, InOrder}
 use Rattle.order.specs.Values.{Address, Key, byAddress, byKey}
 use Rattle.order.proofs.Orders.{Order, by-address, by-key}

@@ -1,7 +1,4 @@
 // The table of pending messages, document 01's board: a row for each message that still owes answers.
-ghost use mathlib.Core.Path.{_≡_};
-ghost use mathlib.Core.List.{[]};
-ghost use Rattle.table.specs.Rows.{see};
 use header::Address;
 use header::Requests;
 use order::Key;

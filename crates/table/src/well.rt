@@ -1,12 +1,11 @@
 // Whether a table is well formed: what a table that comes from outside has to pass before a call
 // changes it.
 ghost use mathlib.Core.Path.{_≡_};
-ghost use mathlib.Core.Bool.{true, false, not, _&&_, _||_};
-ghost use mathlib.Core.List.{map};
+ghost use mathlib.Core.Bool.{true, false, _&&_, _||_};
 ghost use Prim.Native.Nat.{_≤_};
 ghost use lib.Dec.{eqb};
 ghost use Rattle.codec.specs.Refusals.{checkNo};
-ghost use Rattle.header.specs.Rules.{_⇒_, all};
+ghost use Rattle.header.specs.Rules.{all};
 ghost use Rattle.order.specs.Order.{choose};
 ghost use Rattle.order.specs.Requests.{answeredBy};
 ghost use Rattle.order.specs.Values.{addressOf, keyOf, byAddress, byKey, comparisonOf};

@@ -22,7 +22,7 @@ use Rattle.pending.proofs.arguments.check_posting.Tie as tie
 
 returns : tie.Need-returns
 unfolding postingFault
-returns c = 
+returns c =
     let s = c .before .before .before .before in
     let w = (written-no (c .before .before .before .before .args .h) (c .before .before .before .before .args .count .0) _ (c .before .before .before .check .ensures)) in
     (c .by-record .ensures .0 ∙ w ∙ at-record (faultOf (c .before .before .before .before .args .h) (c .before .before .before .before .args .count .0)) (hasBlock (c .before .before .before .before .args .h) (c .before .before .before .before .args .number)) (asks (blockAt (c .before .before .before .before .args .h) (c .before .before .before .before .args .number))) (someRecipient (c .before .before .before .before .args .h)) 20 21 (subst (λ (k : ℕ). 0 < k) w (written-bad _ (c .before .before .match .keys2))), c .by-record .ensures .1)
@@ -33,7 +33,7 @@ returns-2 c = (c .refusal .ensures .0 ∙ at-block (faultOf (c .before .before .
 
 block-at-requires : tie.Need-block-at-requires
 unfolding blocks viewed
-block-at-requires c κs = 
+block-at-requires c κs =
     let s = c .before .before .before .before .before in
     let v = valid-fields (c .before .before .before .before .before .args .h) (c .before .before .before .before .before .args .count .0) (sym (written-no (c .before .before .before .before .before .args .h) (c .before .before .before .before .before .args .count .0) _ (c .before .before .before .before .check .ensures)) ∙ sym (written-fine _ (c .before .before .before .match .keys1))) in
     ((sym (c .before .has-block .ensures) ∙ not-false _ (c .if1 .left)), count-most noBlock block 16 15 _ _ (blocks-legal (s .args .h) v))

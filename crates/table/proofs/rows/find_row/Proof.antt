@@ -19,12 +19,6 @@ abbrev μ-loop : tie.MeasureT-loop
 loop-holds : tie.Need-loop-holds Inv-loop μ-loop
 loop-holds c = seeking-none _ _ _ _ _
 
-mul-row : tie.Need-mul-row Inv-loop μ-loop
-mul-row c = let h : length (c .before .before .args .t1 .rows) ≡ 32 = search (needs, unmapped) in search needs
-
-element-copy-out-row : tie.Need-element-copy-out-row Inv-loop μ-loop
-element-copy-out-row c = let h : length (c .before .before .args .t1 .rows) ≡ 32 = search (needs, unmapped) in search needs
-
 returns : tie.Need-returns Inv-loop μ-loop
 unfolding comparisonOf
 returns c = (omega arith, λ e. no-way e, let h : length (c .before .before .before .before .before .before .args .t1 .rows) ≡ 32 = search (needs, unmapped) in seeking-free _ _ _ _ _ _ (c .before .before .before .before .before .loop .inv) (omega arith) _ (omega arith) (sym (c .before .before .compare-keys .ensures) ∙ ap comparisonOf (c .enum-told .given .1)))
@@ -41,4 +35,4 @@ returns-3 : tie.Need-returns-3 Inv-loop μ-loop
 returns-3 c = (omega arith, λ e. no-way e, let h : length (c .before .before .args .t1 .rows) ≡ 32 = search (needs, unmapped) in seeking-end _ _ _ _ _ _ (c .before .loop .inv) (omega arith) (omega arith))
 
 pub find-row-spec : {M : Type 1} → statement M
-find-row-spec = tie.close (tie.spec Inv-loop μ-loop (λ c. search needs) loop-holds mul-row element-copy-out-row (λ c κs. search needs) (λ c. search needs) returns (λ c. search needs) returns-2 (λ c. search needs) (λ c. search needs) (λ c. search needs) loop-again returns-3)
+find-row-spec = tie.close (tie.spec Inv-loop μ-loop (λ c. search needs) loop-holds (λ c. search needs) (λ c. search needs) (λ c κs. search needs) (λ c. search needs) returns (λ c. search needs) returns-2 (λ c. search needs) (λ c. search needs) (λ c. search needs) loop-again returns-3)

@@ -1,7 +1,7 @@
 -- `table::rows::remove_row` meets its contract. The invariant: those up to k have moved down. Assumes nothing.
 use borrow.Author.Needs.{needs}
 use Prim.Native.Nat.{_-_}
-use mathlib.Core.Path.{_≡_, refl}
+use mathlib.Core.Path.{_≡_}
 use native.Mathlib.Omega.{arith}
 use lib.ListN.{length}
 use Rattle.codec.proofs.ListLaws.{unmapped}

@@ -20,12 +20,6 @@ abbrev μ-loop : tie.MeasureT-loop
 loop-holds : tie.Need-loop-holds Inv-loop μ-loop
 loop-holds c = passed-none _ _ _
 
-mul-x : tie.Need-mul-x Inv-loop μ-loop
-mul-x c = let h : length (c .before .before .before .args .t1 .recipients) ≡ 16 = search (needs, unmapped) in search needs
-
-element-copy-out-x : tie.Need-element-copy-out-x Inv-loop μ-loop
-element-copy-out-x c = let h : length (c .before .before .before .args .t1 .recipients) ≡ 16 = search (needs, unmapped) in search needs
-
 returns : tie.Need-returns Inv-loop μ-loop
 returns c = let h : length (c .before .before .before .before .before .before .args .t1 .recipients) ≡ 16 = search (needs, unmapped) in passed-not _ _ _ _ (c .before .before .before .before .loop .inv) _ (omega arith) (omega arith) (sym (c .before .recipient-fine .ensures) ∙ not-true _ (c .if1 .taken))
 
@@ -36,4 +30,4 @@ returns-2 : tie.Need-returns-2 Inv-loop μ-loop
 returns-2 c = passed-all _ _ _ _ (c .before .loop .inv) (omega arith)
 
 pub recipients-fine-spec : {M : Type 1} → statement M
-recipients-fine-spec = tie.close (tie.spec Inv-loop μ-loop (λ c. search needs) loop-holds mul-x element-copy-out-x (λ c κs. search needs) returns (λ c. search needs) (λ c. search needs) loop-again returns-2)
+recipients-fine-spec = tie.close (tie.spec Inv-loop μ-loop (λ c. search needs) loop-holds (λ c. search needs) (λ c. search needs) (λ c κs. search needs) returns (λ c. search needs) (λ c. search needs) loop-again returns-2)

@@ -1,7 +1,6 @@
 -- `table::well::row_fine` meets its contract. Assumes nothing.
 use borrow.Author.Needs.{needs}
 use borrow.Author.Tests.{not-true, not-false, le-leb, lt-leb}
-use native.Mathlib.Omega.{arith}
 use Rattle.table.specs.WellFormed.{rowFine}
 use Rattle.table.proofs.well.row_fine.Statement.{statement}
 use Rattle.table.proofs.well.row_fine.Tie as tie

@@ -20,12 +20,6 @@ abbrev μ-loop : tie.MeasureT-loop
 loop-holds : tie.Need-loop-holds Inv-loop μ-loop
 loop-holds c = passed-none _ _ _
 
-mul-row : tie.Need-mul-row Inv-loop μ-loop
-mul-row c = let h : length (c .before .before .args .t1 .rows) ≡ 32 = search (needs, unmapped) in search needs
-
-element-copy-out-row : tie.Need-element-copy-out-row Inv-loop μ-loop
-element-copy-out-row c = let h : length (c .before .before .args .t1 .rows) ≡ 32 = search (needs, unmapped) in search needs
-
 returns : tie.Need-returns Inv-loop μ-loop
 returns c = let h : length (c .before .before .before .before .before .args .t1 .rows) ≡ 32 = search (needs, unmapped) in passed-not _ _ _ _ (c .before .before .before .before .loop .inv) _ (omega arith) (omega arith) (sym (c .before .row-fine .ensures) ∙ not-true _ (c .if1 .taken))
 
@@ -36,4 +30,4 @@ returns-2 : tie.Need-returns-2 Inv-loop μ-loop
 returns-2 c = passed-all _ _ _ _ (c .before .loop .inv) (omega arith)
 
 pub rows-fine-spec : {M : Type 1} → statement M
-rows-fine-spec = tie.close (tie.spec Inv-loop μ-loop (λ c. search needs) loop-holds mul-row element-copy-out-row (λ c κs. search needs) returns (λ c. search needs) (λ c. search needs) loop-again returns-2)
+rows-fine-spec = tie.close (tie.spec Inv-loop μ-loop (λ c. search needs) loop-holds (λ c. search needs) (λ c. search needs) (λ c κs. search needs) returns (λ c. search needs) (λ c. search needs) loop-again returns-2)

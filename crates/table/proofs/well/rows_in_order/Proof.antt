@@ -20,18 +20,6 @@ abbrev μ-loop : tie.MeasureT-loop
 loop-holds : tie.Need-loop-holds Inv-loop μ-loop
 loop-holds c = rising-none _ _ _ _
 
-mul-x : tie.Need-mul-x Inv-loop μ-loop
-mul-x c = let h : length (c .before .before .args .t1 .rows) ≡ 32 = search (needs, unmapped) in search needs
-
-element-copy-out-x : tie.Need-element-copy-out-x Inv-loop μ-loop
-element-copy-out-x c = let h : length (c .before .before .args .t1 .rows) ≡ 32 = search (needs, unmapped) in search needs
-
-mul-y : tie.Need-mul-y Inv-loop μ-loop
-mul-y c = let h : length (c .before .before .before .args .t1 .rows) ≡ 32 = search (needs, unmapped) in search needs
-
-element-copy-out-y : tie.Need-element-copy-out-y Inv-loop μ-loop
-element-copy-out-y c = let h : length (c .before .before .before .args .t1 .rows) ≡ 32 = search (needs, unmapped) in search needs
-
 returns : tie.Need-returns Inv-loop μ-loop
 returns c = let h : length (c .before .before .before .before .before .before .args .t1 .rows) ≡ 32 = search (needs, unmapped) in rising-not _ _ _ _ _ (c .before .before .before .before .before .loop .inv) (omega arith) _ (omega arith) (sym (c .before .key-before .ensures) ∙ not-true _ (c .if1 .taken))
 
@@ -42,4 +30,4 @@ returns-2 : tie.Need-returns-2 Inv-loop μ-loop
 returns-2 c = let h : length (c .before .before .args .t1 .rows) ≡ 32 = search (needs, unmapped) in rising-all _ _ _ _ _ (c .before .loop .inv) (omega arith) (omega arith)
 
 pub rows-in-order-spec : {M : Type 1} → statement M
-rows-in-order-spec = tie.close (tie.spec Inv-loop μ-loop (λ c. search needs) loop-holds (λ c. search needs) mul-x element-copy-out-x (λ c. search needs) mul-y element-copy-out-y (λ c κs. search needs) returns (λ c. search needs) (λ c. search needs) loop-again returns-2)
+rows-in-order-spec = tie.close (tie.spec Inv-loop μ-loop (λ c. search needs) loop-holds (λ c. search needs) (λ c. search needs) (λ c. search needs) (λ c. search needs) (λ c. search needs) (λ c. search needs) (λ c κs. search needs) returns (λ c. search needs) (λ c. search needs) loop-again returns-2)

@@ -1,7 +1,6 @@
 -- `table::well::well_formed` meets its contract. Assumes nothing.
 use borrow.Author.Needs.{needs}
 use borrow.Author.Tests.{not-true, not-false, le-leb, lt-leb}
-use native.Mathlib.Omega.{arith}
 use Rattle.table.specs.WellFormed.{wellFormed}
 use Rattle.table.proofs.well.well_formed.Statement.{statement}
 use Rattle.table.proofs.well.well_formed.Tie as tie

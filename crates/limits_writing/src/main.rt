@@ -1,0 +1,58 @@
+// Records at the limits of document 01, written. Each case is one line: its name; then `written` with the
+// octets of the header, whether the octets behind it are as they were, and the length that the reader tells
+// of it, or `refused` with the number, and whether the output is as it was. The file stdout has what each has
+// to be, worked from document 01; the count of bits stands beside the case here.
+//
+// The counts begin with octets A, 33 bits: version 4; one for each of compression, G1, G2, G3 and the header
+// size, which are absent; and a block of 24: recurrence 1, UMF 4, standard version, G4, file name and message
+// size 1 each, the four codes 8, marking and G5 to G10 1 each.
+mod cases;
+mod lengths;
+mod lists;
+mod numbers;
+mod order;
+mod plan;
+mod records;
+mod rules_and_sizes;
+mod tell;
+mod texts;
+mod unused;
+mod worked;
+
+fn fields() {
+    worked::octets();
+    worked::every_field();
+    texts::originators();
+    texts::characters();
+    texts::others();
+    texts::recipients();
+    numbers::fronts();
+    numbers::formats();
+    numbers::codes();
+    numbers::dates();
+    numbers::times();
+    numbers::other_times();
+    numbers::receipts();
+    lists::forms();
+    lists::forms_in_lists();
+    lists::addressees();
+    lists::blocks();
+    lists::references();
+}
+
+fn main() {
+    fields();
+    rules_and_sizes::rules_a_to_e();
+    rules_and_sizes::rule_f();
+    rules_and_sizes::rules_g_to_i();
+    rules_and_sizes::second_block();
+    rules_and_sizes::receipts();
+    rules_and_sizes::one_block();
+    rules_and_sizes::several_blocks();
+    lengths::lengths();
+    lengths::rooms();
+    order::fronts();
+    order::blocks();
+    order::checks();
+    unused::unused_cells();
+}
