@@ -1,6 +1,6 @@
 -- The calls on the rows, way by way, and what each way makes of the table. Assumes nothing.
 use Prim.Native.Nat.{ℕ, zero, suc, _<_}
-use mathlib.Core.Path.{_≡_, refl, ap, sym, _∙_}
+use mathlib.Core.Path.{_≡_, refl, sym, _∙_, subst}
 use mathlib.Core.Bool.{Bool, true, false}
 use mathlib.Core.List.{List, [], _∷_}
 use mathlib.Core.Logic.{_≢_, inl, inr}
@@ -20,6 +20,8 @@ use Rattle.table.specs.declared.Table.{Table}
 use Rattle.table.proofs.InOrder.{rows-in-order}
 use Rattle.pending.specs.Arguments.{Arguments, named, callOf}
 use Rattle.pending.specs.Calls.{Did, answerOn, rowsAfter}
+use Rattle.pending.specs.Told.{answerNo}
+use Rattle.pending.specs.declared.TableAfter.{TableAfter}
 
 -- ---- what each way promises
 
@@ -40,6 +42,10 @@ module _ (a : Arguments) (t : Table) where
 
     pub did-done : (t′ : Table) → 0 ≡ board (callOf a) (see t) .0 → see t′ ≡ board (callOf a) (see t) .1 → wellFormed t′ ≡ true → Did a t 0 t′
     did-done t′ e s v = record { answer = e ∙ rw w; rows = s ∙ rw w; well = v ∙ sym w; refused = λ r. absurd (r refl) }
+
+-- a refusal that the code hands back
+pub did-kept : (a : Arguments) (t : Table) (n : ℕ) (r : TableAfter) → answerNo (r .answer) ≡ n → r .table ≡ t → Did a t n t → Did a t (answerNo (r .answer)) (r .table)
+did-kept a t n r e f d = subst (λ (m : ℕ). Did a t m (r .table)) (sym e) (subst (λ (u : Table). Did a t n u) (sym f) d)
 
 -- ---- the calls on the rows
 

@@ -2,7 +2,7 @@
 ghost use mathlib.Core.Path.{_≡_};
 ghost use Rattle.pending.specs.Arguments.{posting, receiving, releasing};
 ghost use Rattle.pending.specs.Calls.{Did};
-ghost use Rattle.pending.specs.Told.{answerNo, answerPlace};
+ghost use Rattle.pending.specs.Told.{pendingNo, answerNo, answerPlace};
 use arguments::by_check;
 use arguments::check_posting;
 use arguments::check_receipt;
@@ -55,6 +55,23 @@ pub struct TableAfter {
     pub table: Table,
 }
 
+// The table as it came, beside an answer.
+fn kept(t: Table, answer: Answer) -> TableAfter
+    ensures { λ r. ⌜ (r .answer ≡ answer) × (r .table ≡ t) ⌝ }
+{
+    TableAfter {
+        answer: answer,
+        table: t,
+    }
+}
+
+// The table as it came, beside a refusal.
+fn refused(t: Table, fault: PendingFault) -> TableAfter
+    ensures { λ r. ⌜ (answerNo (r .answer) ≡ pendingNo fault) × (answerPlace (r .answer) ≡ 0) × (r .table ≡ t) ⌝ }
+{
+    kept(t, refusal(fault))
+}
+
 // A message's key, from its parts.
 fn key_of(address: Address, stamp: Stamp) -> Key
     ensures { λ r. ⌜ (r .address ≡ address) × (r .stamp ≡ stamp) ⌝ }
@@ -70,18 +87,11 @@ pub fn post(t: Table, h: Header, number: u32, count: OctetSize) -> TableAfter
     ensures { λ r. ⌜ Did (posting h number (count .0)) t (answerNo (r .answer)) (r .table) × (answerPlace (r .answer) ≡ 0) ⌝ }
 {
     if !well_formed(t) {
-        let answer = refusal(PendingFault::IllFormed);
-        return TableAfter {
-            answer: answer,
-            table: t,
-        };
+        return refused(t, PendingFault::IllFormed);
     }
     let answer = check_posting(h, number, count);
     let Answer::Done = answer else {
-        return TableAfter {
-            answer: answer,
-            table: t,
-        };
+        return kept(t, answer);
     };
     let block = arguments::block_at(h, number);
     let from = h.front.originator.address;
@@ -89,18 +99,10 @@ pub fn post(t: Table, h: Header, number: u32, count: OctetSize) -> TableAfter
     let place = find_row(t, key);
     let held = place.held;
     if held {
-        let answer = refusal(PendingFault::KeyHeld);
-        return TableAfter {
-            answer: answer,
-            table: t,
-        };
+        return refused(t, PendingFault::KeyHeld);
     }
     if 32 <= t.count {
-        let answer = refusal(PendingFault::TableFull);
-        return TableAfter {
-            answer: answer,
-            table: t,
-        };
+        return refused(t, PendingFault::TableFull);
     }
     let row = row::new_row(
         key,
@@ -119,18 +121,11 @@ pub fn receipt(t: Table, h: Header, number: u32, count: OctetSize) -> TableAfter
     ensures { λ r. ⌜ Did (receiving h number (count .0)) t (answerNo (r .answer)) (r .table) × (answerPlace (r .answer) ≡ 0) ⌝ }
 {
     if !well_formed(t) {
-        let answer = refusal(PendingFault::IllFormed);
-        return TableAfter {
-            answer: answer,
-            table: t,
-        };
+        return refused(t, PendingFault::IllFormed);
     }
     let answer = check_receipt(h, number, count);
     let Answer::Done = answer else {
-        return TableAfter {
-            answer: answer,
-            table: t,
-        };
+        return kept(t, answer);
     };
     let block = arguments::block_at(h, number);
     let to = h.front.recipients.addresses.list;
@@ -139,11 +134,7 @@ pub fn receipt(t: Table, h: Header, number: u32, count: OctetSize) -> TableAfter
     let place = find_row(t, key);
     let held = place.held;
     if !held {
-        let answer = refusal(PendingFault::NoRow);
-        return TableAfter {
-            answer: answer,
-            table: t,
-        };
+        return refused(t, PendingFault::NoRow);
     }
     let at = place.at;
     let row = t.rows[at];
@@ -151,10 +142,7 @@ pub fn receipt(t: Table, h: Header, number: u32, count: OctetSize) -> TableAfter
     let after = settled::settled_row(row, from, block.response.response.compliance.code);
     let answer = after.answer;
     let Answer::Done = answer else {
-        return TableAfter {
-            answer: answer,
-            table: t,
-        };
+        return kept(t, answer);
     };
     let next = replace_row(t, at, after.row);
     TableAfter {
@@ -168,28 +156,16 @@ pub fn release(t: Table, key: Key) -> TableAfter
     ensures { λ r. ⌜ Did (releasing key) t (answerNo (r .answer)) (r .table) × (answerPlace (r .answer) ≡ 0) ⌝ }
 {
     if !well_formed(t) {
-        let answer = refusal(PendingFault::IllFormed);
-        return TableAfter {
-            answer: answer,
-            table: t,
-        };
+        return refused(t, PendingFault::IllFormed);
     }
     let fault = check_key(key);
     let Check::Fine = fault else {
-        let answer = by_check(fault);
-        return TableAfter {
-            answer: answer,
-            table: t,
-        };
+        return kept(t, by_check(fault));
     };
     let place = find_row(t, key);
     let held = place.held;
     if !held {
-        let answer = refusal(PendingFault::NoRow);
-        return TableAfter {
-            answer: answer,
-            table: t,
-        };
+        return refused(t, PendingFault::NoRow);
     }
     let after = remove_row(t, place.at);
     TableAfter {

@@ -12,19 +12,25 @@ use Rattle.header.specs.declared.Codes.{Codes}
 use Rattle.header.specs.declared.Stamp.{Stamp}
 use Rattle.header.specs.declared.Header.{Header}
 use Rattle.reader.specs.Reading.{Reading, accepted, rejected, reading, userData}
+use Rattle.order.specs.Calls.{board}
+use Rattle.order.specs.Runs.{answers}
+use Rattle.pending.specs.Arguments.{Arguments, posting, receiving, callOf}
+use Rattle.pending.specs.Sheet.{sheet}
 use Rattle.writer.specs.Writing as Writing
 use Rattle.writer.specs.Writing.{Writing, done, writing, outputAfter}
 
 -- a datagram, what reading it gives, and the user data behind its header; or a record with a count of user data and an output, what writing it gives, and the
--- output afterwards
+-- output afterwards; or calls on the table of pending messages, the first on an empty one, and the numbers of their answers
 pub data Case : Type 0 where
   reads : List ℕ → Reading → List ℕ → Case
   writes : Header → ℕ → List ℕ → Writing → List ℕ → Case
+  plays : List Arguments → List ℕ → Case
 
--- a case holds of the definitions that the contracts of `read`, `user_data` and `write` cite
+-- a case holds of the definitions that the contracts of the public calls cite, and a case of calls also of the history's sheet
 abbrev pub Holds : Case → Type 0
 Holds (reads s gives behind) = (reading s ≡ gives) × (userData s ≡ behind)
 Holds (writes h count out gives after) = (writing h count (length out) ≡ gives) × (outputAfter h (writing h count (length out)) out ≡ after)
+Holds (plays calls numbers) = (answers (λ x. board (callOf x)) [] calls ≡ numbers) × (answers sheet [] calls ≡ numbers)
 
 abbrev pub AllHold : List Case → Type 0
 AllHold [] = Unit {0}
@@ -192,4 +198,8 @@ cases =
     ∷ writtenAs recordB 1 octetsB
     ∷ writtenAs recordC 0 octetsC
     ∷ writes recordA 0 over (Writing.rejected 10 0) over
+    -- C on the empty table; B twice; B and C twice
+    ∷ plays (receiving recordC 1 0 ∷ []) (26 ∷ [])
+    ∷ plays (posting recordB 1 1 ∷ posting recordB 1 1 ∷ []) (0 ∷ 22 ∷ [])
+    ∷ plays (posting recordB 1 1 ∷ receiving recordC 1 0 ∷ receiving recordC 1 0 ∷ []) (0 ∷ 0 ∷ 28 ∷ [])
     ∷ []

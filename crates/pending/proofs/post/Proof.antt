@@ -26,7 +26,7 @@ use Rattle.pending.specs.Calls.{Did}
 use Rattle.pending.specs.Told.{pendingNo, answerNo, answerPlace}
 use Rattle.pending.proofs.Told.{answer-done, answer-bad}
 use Rattle.pending.proofs.Names.{Posts, posts}
-use Rattle.pending.proofs.Boards.{did-ill}
+use Rattle.pending.proofs.Boards.{did-ill, did-kept}
 use Rattle.pending.proofs.Ways.{post-bad, post-twice, post-over, post-new, recipients-legal, recipients-are, post-row, posted-rows}
 use Rattle.pending.proofs.post.Statement.{statement}
 use Rattle.pending.proofs.post.Tie as tie
@@ -37,13 +37,14 @@ whole s = search (needs, unmapped)
 returns : tie.Need-returns
 unfolding pendingNo
 returns c =
-    let e = c .refusal .ensures in
-    (subst (λ (n : ℕ). Did (posting (c .before .before .before .args .h) (c .before .before .before .args .number) (c .before .before .before .args .count .0)) (c .before .before .before .args .t) n (c .before .before .before .args .t)) (sym (e .0)) (did-ill _ (c .before .before .before .args .t) (sym (c .before .before .well-formed .ensures) ∙ not-true _ (c .before .if1 .taken))), e .1)
+    let e = c .refused .ensures in
+    (did-kept _ _ _ _ (e .0) (e .2) (did-ill _ (c .before .before .before .args .t) (sym (c .before .before .well-formed .ensures) ∙ not-true _ (c .before .if1 .taken))), e .1)
 
 returns-2 : tie.Need-returns-2
 returns-2 c =
-    let e = c .before .before .check-posting .ensures in
-    (post-bad (c .before .before .before .before .before .args .t) (sym (c .before .before .before .before .well-formed .ensures) ∙ not-false _ (c .before .before .before .if1 .left)) (c .before .before .before .before .before .args .h) (c .before .before .before .before .before .args .number) (c .before .before .before .before .before .args .count .0) _ (answer-bad _ (c .before .match .keys2)) (e .0), e .1)
+    let e = c .before .before .before .check-posting .ensures in
+    let k = c .kept .ensures in
+    (did-kept _ _ _ _ (ap answerNo (k .0)) (k .1) (post-bad (c .before .before .before .before .before .before .args .t) (sym (c .before .before .before .before .before .well-formed .ensures) ∙ not-false _ (c .before .before .before .before .if1 .left)) (c .before .before .before .before .before .before .args .h) (c .before .before .before .before .before .before .args .number) (c .before .before .before .before .before .before .args .count .0) _ (answer-bad (c .before .before .before .check-posting .result) (c .before .before .match .keys2)) (e .0)), ap answerPlace (k .0) ∙ e .1)
 
 block-at-requires : tie.Need-block-at-requires
 unfolding blocks viewed
@@ -57,15 +58,15 @@ find-row-requires c κs = fine-table (c .before .before .before .before .before 
 returns-3 : tie.Need-returns-3
 unfolding pendingNo
 returns-3 c =
-    let e = c .refusal2 .ensures in
-    (subst (λ (n : ℕ). Did (posting (c .before .before .before .before .before .before .before .before .before .before .before .args .h) (c .before .before .before .before .before .before .before .before .before .before .before .args .number) (c .before .before .before .before .before .before .before .before .before .before .before .args .count .0)) (c .before .before .before .before .before .before .before .before .before .before .before .args .t) n (c .before .before .before .before .before .before .before .before .before .before .before .args .t)) (sym (e .0)) (post-twice (c .before .before .before .before .before .before .before .before .before .before .before .args .t) (sym (c .before .before .before .before .before .before .before .before .before .before .well-formed .ensures) ∙ not-false _ (c .before .before .before .before .before .before .before .before .before .if1 .left)) (c .before .before .before .before .before .before .before .before .before .before .before .args .h) (c .before .before .before .before .before .before .before .before .before .before .before .args .number) (c .before .before .before .before .before .before .before .before .before .before .before .args .count .0) (sym (c .before .before .before .before .before .before .before .before .check-posting .ensures .0) ∙ answer-done (c .before .before .before .before .before .before .before .before .check-posting .result) (c .before .before .before .before .before .before .before .match .keys1)) (c .before .before .before .key-of .result) (c .before .before .before .key-of .ensures .0) (c .before .before .before .key-of .ensures .1 ∙ ap (λ (x : Block). x .times .origin .stamp) (c .before .before .before .before .before .block-at .ensures)) _ noRow (subst (Stopped byKey (keyOf (c .before .before .before .key-of .result)) (keysOf (c .before .before .before .before .before .before .before .before .before .before .before .args .t)) (c .before .before .find-row .result .at)) (c .before .if2 .taken) (c .before .before .find-row .ensures .2))), e .1)
+    let e = c .refused2 .ensures in
+    (did-kept _ _ _ _ (e .0) (e .2) (post-twice (c .before .before .before .before .before .before .before .before .before .before .before .args .t) (sym (c .before .before .before .before .before .before .before .before .before .before .well-formed .ensures) ∙ not-false _ (c .before .before .before .before .before .before .before .before .before .if1 .left)) (c .before .before .before .before .before .before .before .before .before .before .before .args .h) (c .before .before .before .before .before .before .before .before .before .before .before .args .number) (c .before .before .before .before .before .before .before .before .before .before .before .args .count .0) (sym (c .before .before .before .before .before .before .before .before .check-posting .ensures .0) ∙ answer-done (c .before .before .before .before .before .before .before .before .check-posting .result) (c .before .before .before .before .before .before .before .match .keys1)) (c .before .before .before .key-of .result) (c .before .before .before .key-of .ensures .0) (c .before .before .before .key-of .ensures .1 ∙ ap (λ (x : Block). x .times .origin .stamp) (c .before .before .before .before .before .block-at .ensures)) _ noRow (subst (Stopped byKey (keyOf (c .before .before .before .key-of .result)) (keysOf (c .before .before .before .before .before .before .before .before .before .before .before .args .t)) (c .before .before .find-row .result .at)) (c .before .if2 .taken) (c .before .before .find-row .ensures .2))), e .1)
 
 returns-4 : tie.Need-returns-4
 unfolding pendingNo
 returns-4 c =
-    let e = c .refusal3 .ensures in
+    let e = c .refused3 .ensures in
     let l = whole (c .before .before .before .before .before .before .before .before .before .before .before .before .before) in
-    (subst (λ (n : ℕ). Did (posting (c .before .before .before .before .before .before .before .before .before .before .before .before .before .args .h) (c .before .before .before .before .before .before .before .before .before .before .before .before .before .args .number) (c .before .before .before .before .before .before .before .before .before .before .before .before .before .args .count .0)) (c .before .before .before .before .before .before .before .before .before .before .before .before .before .args .t) n (c .before .before .before .before .before .before .before .before .before .before .before .before .before .args .t)) (sym (e .0)) (post-over (c .before .before .before .before .before .before .before .before .before .before .before .before .before .args .t) (sym (c .before .before .before .before .before .before .before .before .before .before .before .before .well-formed .ensures) ∙ not-false _ (c .before .before .before .before .before .before .before .before .before .before .before .if1 .left)) (c .before .before .before .before .before .before .before .before .before .before .before .before .before .args .h) (c .before .before .before .before .before .before .before .before .before .before .before .before .before .args .number) (c .before .before .before .before .before .before .before .before .before .before .before .before .before .args .count .0) (sym (c .before .before .before .before .before .before .before .before .before .before .check-posting .ensures .0) ∙ answer-done (c .before .before .before .before .before .before .before .before .before .before .check-posting .result) (c .before .before .before .before .before .before .before .before .before .match .keys1)) (c .before .before .before .before .before .key-of .result) (c .before .before .before .before .before .key-of .ensures .0) (c .before .before .before .before .before .key-of .ensures .1 ∙ ap (λ (x : Block). x .times .origin .stamp) (c .before .before .before .before .before .before .before .block-at .ensures)) _ (subst (Stopped byKey (keyOf (c .before .before .before .before .before .key-of .result)) (keysOf (c .before .before .before .before .before .before .before .before .before .before .before .before .before .args .t)) (c .before .before .before .before .find-row .result .at)) (c .before .before .before .if2 .left) (c .before .before .before .before .find-row .ensures .2)) l (fine-table (c .before .before .before .before .before .before .before .before .before .before .before .before .before .args .t) (sym (c .before .before .before .before .before .before .before .before .before .before .before .before .well-formed .ensures) ∙ not-false _ (c .before .before .before .before .before .before .before .before .before .before .before .if1 .left)) .fits) (c .before .if3 .taken)), e .1)
+    (did-kept _ _ _ _ (e .0) (e .2) (post-over (c .before .before .before .before .before .before .before .before .before .before .before .before .before .args .t) (sym (c .before .before .before .before .before .before .before .before .before .before .before .before .well-formed .ensures) ∙ not-false _ (c .before .before .before .before .before .before .before .before .before .before .before .if1 .left)) (c .before .before .before .before .before .before .before .before .before .before .before .before .before .args .h) (c .before .before .before .before .before .before .before .before .before .before .before .before .before .args .number) (c .before .before .before .before .before .before .before .before .before .before .before .before .before .args .count .0) (sym (c .before .before .before .before .before .before .before .before .before .before .check-posting .ensures .0) ∙ answer-done (c .before .before .before .before .before .before .before .before .before .before .check-posting .result) (c .before .before .before .before .before .before .before .before .before .match .keys1)) (c .before .before .before .before .before .key-of .result) (c .before .before .before .before .before .key-of .ensures .0) (c .before .before .before .before .before .key-of .ensures .1 ∙ ap (λ (x : Block). x .times .origin .stamp) (c .before .before .before .before .before .before .before .block-at .ensures)) _ (subst (Stopped byKey (keyOf (c .before .before .before .before .before .key-of .result)) (keysOf (c .before .before .before .before .before .before .before .before .before .before .before .before .before .args .t)) (c .before .before .before .before .find-row .result .at)) (c .before .before .before .if2 .left) (c .before .before .before .before .find-row .ensures .2)) l (fine-table (c .before .before .before .before .before .before .before .before .before .before .before .before .before .args .t) (sym (c .before .before .before .before .before .before .before .before .before .before .before .before .well-formed .ensures) ∙ not-false _ (c .before .before .before .before .before .before .before .before .before .before .before .if1 .left)) .fits) (c .before .if3 .taken)), e .1)
 
 new-row-requires : tie.Need-new-row-requires
 new-row-requires c κs = recipients-legal (c .before .before .before .before .before .before .before .before .before .before .before .before .args .t) (sym (c .before .before .before .before .before .before .before .before .before .before .before .well-formed .ensures) ∙ not-false _ (c .before .before .before .before .before .before .before .before .before .before .if1 .left)) (c .before .before .before .before .before .before .before .before .before .before .before .before .args .h) (c .before .before .before .before .before .before .before .before .before .before .before .before .args .number) (c .before .before .before .before .before .before .before .before .before .before .before .before .args .count .0) (sym (c .before .before .before .before .before .before .before .before .before .check-posting .ensures .0) ∙ answer-done (c .before .before .before .before .before .before .before .before .before .check-posting .result) (c .before .before .before .before .before .before .before .before .match .keys1)) (c .before .before .before .before .key-of .result) (c .before .before .before .before .key-of .ensures .0) (c .before .before .before .before .key-of .ensures .1 ∙ ap (λ (x : Block). x .times .origin .stamp) (c .before .before .before .before .before .before .block-at .ensures)) (posts (c .before .before .before .before .before .before .before .before .before .before .before .before .args .h) (c .before .before .before .before .before .before .before .before .before .before .before .before .args .number) (c .before .before .before .before .before .before .before .before .before .before .before .before .args .count .0) (sym (c .before .before .before .before .before .before .before .before .before .check-posting .ensures .0) ∙ answer-done (c .before .before .before .before .before .before .before .before .before .check-posting .result) (c .before .before .before .before .before .before .before .before .match .keys1)))
@@ -90,4 +91,4 @@ returns-5 c =
     )
 
 pub post-spec : {M : Type 1} → statement M
-post-spec = tie.close (tie.spec (λ c κs. search needs) (λ c κs. search needs) returns (λ c κs. search needs) (λ c. search needs) (λ c. search needs) returns-2 block-at-requires (λ c κs. search needs) find-row-requires (λ c κs. search needs) returns-3 (λ c κs. search needs) returns-4 new-row-requires insert-row-requires returns-5)
+post-spec = tie.close (tie.spec (λ c κs. search needs) (λ c κs. search needs) returns (λ c κs. search needs) (λ c. search needs) (λ c. search needs) (λ c κs. search needs) returns-2 block-at-requires (λ c κs. search needs) find-row-requires (λ c κs. search needs) returns-3 (λ c κs. search needs) returns-4 new-row-requires insert-row-requires returns-5)

@@ -24,7 +24,7 @@ use Rattle.pending.specs.Told.{pendingNo, answerNo, answerPlace}
 use Rattle.pending.proofs.Told.{answer-done, answer-bad, any-default}
 use Rattle.pending.proofs.Legal.{code-some}
 use Rattle.pending.proofs.Names.{Answers, answers, legal-at}
-use Rattle.pending.proofs.Boards.{did-ill}
+use Rattle.pending.proofs.Boards.{did-ill, did-kept}
 use Rattle.pending.proofs.Receipts.{whole-list, receipt-bad, receipt-none, receipt-refused, receipt-settled}
 use Rattle.pending.proofs.receipt.Statement.{statement}
 use Rattle.pending.proofs.receipt.Tie as tie
@@ -35,13 +35,14 @@ whole s = search (needs, unmapped)
 returns : tie.Need-returns
 unfolding pendingNo
 returns c =
-    let e = c .refusal .ensures in
-    (subst (λ (n : ℕ). Did (receiving (c .before .before .before .args .h) (c .before .before .before .args .number) (c .before .before .before .args .count .0)) (c .before .before .before .args .t1) n (c .before .before .before .args .t1)) (sym (e .0)) (did-ill _ (c .before .before .before .args .t1) (sym (c .before .before .well-formed .ensures) ∙ not-true _ (c .before .if1 .taken))), e .1)
+    let e = c .refused .ensures in
+    (did-kept _ _ _ _ (e .0) (e .2) (did-ill _ (c .before .before .before .args .t1) (sym (c .before .before .well-formed .ensures) ∙ not-true _ (c .before .if1 .taken))), e .1)
 
 returns-2 : tie.Need-returns-2
 returns-2 c =
-    let e = c .before .before .check-receipt .ensures in
-    (receipt-bad (c .before .before .before .before .before .args .t1) (sym (c .before .before .before .before .well-formed .ensures) ∙ not-false _ (c .before .before .before .if1 .left)) (c .before .before .before .before .before .args .h) (c .before .before .before .before .before .args .number) (c .before .before .before .before .before .args .count .0) _ (answer-bad _ (c .before .match .keys2)) (e .0), e .1)
+    let e = c .before .before .before .check-receipt .ensures in
+    let k = c .kept .ensures in
+    (did-kept _ _ _ _ (ap answerNo (k .0)) (k .1) (receipt-bad (c .before .before .before .before .before .before .args .t1) (sym (c .before .before .before .before .before .well-formed .ensures) ∙ not-false _ (c .before .before .before .before .if1 .left)) (c .before .before .before .before .before .before .args .h) (c .before .before .before .before .before .before .args .number) (c .before .before .before .before .before .before .args .count .0) _ (answer-bad (c .before .before .before .check-receipt .result) (c .before .before .match .keys2)) (e .0)), ap answerPlace (k .0) ∙ e .1)
 
 block-at-requires : tie.Need-block-at-requires
 unfolding blocks viewed
@@ -58,8 +59,8 @@ find-row-requires c κs = fine-table (c .before .before .before .before .before 
 returns-3 : tie.Need-returns-3
 unfolding pendingNo
 returns-3 c =
-    let e = c .refusal2 .ensures in
-    (subst (λ (n : ℕ). Did (receiving (c .before .before .before .before .before .before .before .before .before .before .before .before .args .h) (c .before .before .before .before .before .before .before .before .before .before .before .before .args .number) (c .before .before .before .before .before .before .before .before .before .before .before .before .args .count .0)) (c .before .before .before .before .before .before .before .before .before .before .before .before .args .t1) n (c .before .before .before .before .before .before .before .before .before .before .before .before .args .t1)) (sym (e .0)) (receipt-none (c .before .before .before .before .before .before .before .before .before .before .before .before .args .t1) (sym (c .before .before .before .before .before .before .before .before .before .before .before .well-formed .ensures) ∙ not-false _ (c .before .before .before .before .before .before .before .before .before .before .if1 .left)) (c .before .before .before .before .before .before .before .before .before .before .before .before .args .h) (c .before .before .before .before .before .before .before .before .before .before .before .before .args .number) (c .before .before .before .before .before .before .before .before .before .before .before .before .args .count .0) (sym (c .before .before .before .before .before .before .before .before .before .check-receipt .ensures .0) ∙ answer-done (c .before .before .before .before .before .before .before .before .before .check-receipt .result) (c .before .before .before .before .before .before .before .before .match .keys1)) (c .before .before .before .key-of .result) (c .before .before .before .key-of .ensures .0 ∙ any-default (c .before .before .before .before .before .before .before .before .before .before .before .before .args .h .front .recipients .addresses .list) 0 _ noAddress (omega (arith, whole-list (c .before .before .before .before .before .before .before .before .before .before .before .before .args .h) (c .before .before .before .before .before .before .before .before .before .before .before .before .args .number) (c .before .before .before .before .before .before .before .before .before .before .before .before .args .count .0) (answers (c .before .before .before .before .before .before .before .before .before .before .before .before .args .h) (c .before .before .before .before .before .before .before .before .before .before .before .before .args .number) (c .before .before .before .before .before .before .before .before .before .before .before .before .args .count .0) (sym (c .before .before .before .before .before .before .before .before .before .check-receipt .ensures .0) ∙ answer-done (c .before .before .before .before .before .before .before .before .before .check-receipt .result) (c .before .before .before .before .before .before .before .before .match .keys1)))))) (c .before .before .before .key-of .ensures .1 ∙ ap (λ (x : Block). x .response .response .stamp) (c .before .before .before .before .before .before .block-at .ensures)) _ (subst (Stopped byKey (keyOf (c .before .before .before .key-of .result)) (keysOf (c .before .before .before .before .before .before .before .before .before .before .before .before .args .t1)) (c .before .before .find-row .result .at)) (not-true (c .before .before .find-row .result .held) (c .before .if2 .taken)) (c .before .before .find-row .ensures .2))), e .1)
+    let e = c .refused2 .ensures in
+    (did-kept _ _ _ _ (e .0) (e .2) (receipt-none (c .before .before .before .before .before .before .before .before .before .before .before .before .args .t1) (sym (c .before .before .before .before .before .before .before .before .before .before .before .well-formed .ensures) ∙ not-false _ (c .before .before .before .before .before .before .before .before .before .before .if1 .left)) (c .before .before .before .before .before .before .before .before .before .before .before .before .args .h) (c .before .before .before .before .before .before .before .before .before .before .before .before .args .number) (c .before .before .before .before .before .before .before .before .before .before .before .before .args .count .0) (sym (c .before .before .before .before .before .before .before .before .before .check-receipt .ensures .0) ∙ answer-done (c .before .before .before .before .before .before .before .before .before .check-receipt .result) (c .before .before .before .before .before .before .before .before .match .keys1)) (c .before .before .before .key-of .result) (c .before .before .before .key-of .ensures .0 ∙ any-default (c .before .before .before .before .before .before .before .before .before .before .before .before .args .h .front .recipients .addresses .list) 0 _ noAddress (omega (arith, whole-list (c .before .before .before .before .before .before .before .before .before .before .before .before .args .h) (c .before .before .before .before .before .before .before .before .before .before .before .before .args .number) (c .before .before .before .before .before .before .before .before .before .before .before .before .args .count .0) (answers (c .before .before .before .before .before .before .before .before .before .before .before .before .args .h) (c .before .before .before .before .before .before .before .before .before .before .before .before .args .number) (c .before .before .before .before .before .before .before .before .before .before .before .before .args .count .0) (sym (c .before .before .before .before .before .before .before .before .before .check-receipt .ensures .0) ∙ answer-done (c .before .before .before .before .before .before .before .before .before .check-receipt .result) (c .before .before .before .before .before .before .before .before .match .keys1)))))) (c .before .before .before .key-of .ensures .1 ∙ ap (λ (x : Block). x .response .response .stamp) (c .before .before .before .before .before .before .block-at .ensures)) _ (subst (Stopped byKey (keyOf (c .before .before .before .key-of .result)) (keysOf (c .before .before .before .before .before .before .before .before .before .before .before .before .args .t1)) (c .before .before .find-row .result .at)) (not-true (c .before .before .find-row .result .held) (c .before .if2 .taken)) (c .before .before .find-row .ensures .2))), e .1)
 
 mul-row : tie.Need-mul-row
 mul-row c = let l = whole (c .before .before .before .before .before .before .before .before .before .before .before) in let m = fine-table (c .before .before .before .before .before .before .before .before .before .before .before .args .t1) (sym (c .before .before .before .before .before .before .before .before .before .before .well-formed .ensures) ∙ not-false _ (c .before .before .before .before .before .before .before .before .before .if1 .left)) .fits in let k = (c .before .find-row .ensures .1 (not-false (c .before .find-row .result .held) (c .if2 .left))) in search needs
@@ -79,8 +80,9 @@ settled-row-requires c κs =
 
 returns-4 : tie.Need-returns-4
 returns-4 c =
-    let e = c .before .before .settled-row .ensures in
-    (receipt-refused (c .before .before .before .before .before .before .before .before .before .before .before .before .before .before .before .before .args .t1) (sym (c .before .before .before .before .before .before .before .before .before .before .before .before .before .before .before .well-formed .ensures) ∙ not-false _ (c .before .before .before .before .before .before .before .before .before .before .before .before .before .before .if1 .left)) (c .before .before .before .before .before .before .before .before .before .before .before .before .before .before .before .before .args .h) (c .before .before .before .before .before .before .before .before .before .before .before .before .before .before .before .before .args .number) (c .before .before .before .before .before .before .before .before .before .before .before .before .before .before .before .before .args .count .0) (sym (c .before .before .before .before .before .before .before .before .before .before .before .before .before .check-receipt .ensures .0) ∙ answer-done (c .before .before .before .before .before .before .before .before .before .before .before .before .before .check-receipt .result) (c .before .before .before .before .before .before .before .before .before .before .before .before .match .keys1)) (c .before .before .before .before .before .before .before .key-of .result) (c .before .before .before .before .before .before .before .key-of .ensures .0 ∙ any-default (c .before .before .before .before .before .before .before .before .before .before .before .before .before .before .before .before .args .h .front .recipients .addresses .list) 0 _ noAddress (omega (arith, whole-list (c .before .before .before .before .before .before .before .before .before .before .before .before .before .before .before .before .args .h) (c .before .before .before .before .before .before .before .before .before .before .before .before .before .before .before .before .args .number) (c .before .before .before .before .before .before .before .before .before .before .before .before .before .before .before .before .args .count .0) (answers (c .before .before .before .before .before .before .before .before .before .before .before .before .before .before .before .before .args .h) (c .before .before .before .before .before .before .before .before .before .before .before .before .before .before .before .before .args .number) (c .before .before .before .before .before .before .before .before .before .before .before .before .before .before .before .before .args .count .0) (sym (c .before .before .before .before .before .before .before .before .before .before .before .before .before .check-receipt .ensures .0) ∙ answer-done (c .before .before .before .before .before .before .before .before .before .before .before .before .before .check-receipt .result) (c .before .before .before .before .before .before .before .before .before .before .before .before .match .keys1)))))) (c .before .before .before .before .before .before .before .key-of .ensures .1 ∙ ap (λ (x : Block). x .response .response .stamp) (c .before .before .before .before .before .before .before .before .before .before .block-at .ensures)) _ _ (subst (Stopped byKey (keyOf (c .before .before .before .before .before .before .before .key-of .result)) (keysOf (c .before .before .before .before .before .before .before .before .before .before .before .before .before .before .before .before .args .t1)) (c .before .before .before .before .before .before .find-row .result .at)) (not-false (c .before .before .before .before .before .before .find-row .result .held) (c .before .before .before .before .before .if2 .left)) (c .before .before .before .before .before .before .find-row .ensures .2)) _ (ap (λ (x : Block). x .response .response .compliance .code) (c .before .before .before .before .before .before .before .before .before .before .block-at .ensures)) _ (answer-bad (c .before .before .settled-row .result .answer) (c .before .match2 .keys2)) (e .0), e .1)
+    let e = c .before .before .before .settled-row .ensures in
+    let k = c .kept2 .ensures in
+    (did-kept _ _ _ _ (ap answerNo (k .0)) (k .1) (receipt-refused (c .before .before .before .before .before .before .before .before .before .before .before .before .before .before .before .before .before .args .t1) (sym (c .before .before .before .before .before .before .before .before .before .before .before .before .before .before .before .before .well-formed .ensures) ∙ not-false _ (c .before .before .before .before .before .before .before .before .before .before .before .before .before .before .before .if1 .left)) (c .before .before .before .before .before .before .before .before .before .before .before .before .before .before .before .before .before .args .h) (c .before .before .before .before .before .before .before .before .before .before .before .before .before .before .before .before .before .args .number) (c .before .before .before .before .before .before .before .before .before .before .before .before .before .before .before .before .before .args .count .0) (sym (c .before .before .before .before .before .before .before .before .before .before .before .before .before .before .check-receipt .ensures .0) ∙ answer-done (c .before .before .before .before .before .before .before .before .before .before .before .before .before .before .check-receipt .result) (c .before .before .before .before .before .before .before .before .before .before .before .before .before .match .keys1)) (c .before .before .before .before .before .before .before .before .key-of .result) (c .before .before .before .before .before .before .before .before .key-of .ensures .0 ∙ any-default (c .before .before .before .before .before .before .before .before .before .before .before .before .before .before .before .before .before .args .h .front .recipients .addresses .list) 0 _ noAddress (omega (arith, whole-list (c .before .before .before .before .before .before .before .before .before .before .before .before .before .before .before .before .before .args .h) (c .before .before .before .before .before .before .before .before .before .before .before .before .before .before .before .before .before .args .number) (c .before .before .before .before .before .before .before .before .before .before .before .before .before .before .before .before .before .args .count .0) (answers (c .before .before .before .before .before .before .before .before .before .before .before .before .before .before .before .before .before .args .h) (c .before .before .before .before .before .before .before .before .before .before .before .before .before .before .before .before .before .args .number) (c .before .before .before .before .before .before .before .before .before .before .before .before .before .before .before .before .before .args .count .0) (sym (c .before .before .before .before .before .before .before .before .before .before .before .before .before .before .check-receipt .ensures .0) ∙ answer-done (c .before .before .before .before .before .before .before .before .before .before .before .before .before .before .check-receipt .result) (c .before .before .before .before .before .before .before .before .before .before .before .before .before .match .keys1)))))) (c .before .before .before .before .before .before .before .before .key-of .ensures .1 ∙ ap (λ (x : Block). x .response .response .stamp) (c .before .before .before .before .before .before .before .before .before .before .before .block-at .ensures)) _ _ (subst (Stopped byKey (keyOf (c .before .before .before .before .before .before .before .before .key-of .result)) (keysOf (c .before .before .before .before .before .before .before .before .before .before .before .before .before .before .before .before .before .args .t1)) (c .before .before .before .before .before .before .before .find-row .result .at)) (not-false (c .before .before .before .before .before .before .before .find-row .result .held) (c .before .before .before .before .before .before .if2 .left)) (c .before .before .before .before .before .before .before .find-row .ensures .2)) _ (ap (λ (x : Block). x .response .response .compliance .code) (c .before .before .before .before .before .before .before .before .before .before .before .block-at .ensures)) _ (answer-bad (c .before .before .before .settled-row .result .answer) (c .before .before .match2 .keys2)) (e .0)), ap answerPlace (k .0) ∙ e .1)
 
 replace-row-requires : tie.Need-replace-row-requires
 replace-row-requires c κs = ((c .before .before .before .before .before .before .find-row .ensures .1 (not-false (c .before .before .before .before .before .before .find-row .result .held) (c .before .before .before .before .before .if2 .left))), fine-table (c .before .before .before .before .before .before .before .before .before .before .before .before .before .before .before .before .args .t1) (sym (c .before .before .before .before .before .before .before .before .before .before .before .before .before .before .before .well-formed .ensures) ∙ not-false _ (c .before .before .before .before .before .before .before .before .before .before .before .before .before .before .if1 .left)) .fits)
@@ -97,4 +99,4 @@ returns-5 c =
     )
 
 pub receipt-spec : {M : Type 1} → statement M
-receipt-spec = tie.close (tie.spec (λ c κs. search needs) (λ c κs. search needs) returns (λ c κs. search needs) (λ c. search needs) (λ c. search needs) returns-2 block-at-requires array-copy-out-address (λ c κs. search needs) find-row-requires (λ c κs. search needs) returns-3 mul-row element-copy-out-row settled-row-requires (λ c. search needs) (λ c. search needs) returns-4 replace-row-requires returns-5)
+receipt-spec = tie.close (tie.spec (λ c κs. search needs) (λ c κs. search needs) returns (λ c κs. search needs) (λ c. search needs) (λ c. search needs) (λ c κs. search needs) returns-2 block-at-requires array-copy-out-address (λ c κs. search needs) find-row-requires (λ c κs. search needs) returns-3 mul-row element-copy-out-row settled-row-requires (λ c. search needs) (λ c. search needs) (λ c κs. search needs) returns-4 replace-row-requires returns-5)

@@ -1,7 +1,7 @@
 -- `pending::release` meets its contract. Assumes nothing.
 use borrow.Author.Needs.{needs}
 use Prim.Native.Nat.{ℕ, _<_}
-use mathlib.Core.Path.{_≡_, refl, sym, _∙_, subst}
+use mathlib.Core.Path.{_≡_, refl, ap, sym, _∙_, subst}
 use native.Mathlib.Omega.{arith}
 use borrow.Author.Tests.{not-true, not-false}
 use Rattle.order.specs.Values.{keyOf, byKey}
@@ -13,7 +13,7 @@ use Rattle.pending.specs.Arguments.{releasing}
 use Rattle.pending.specs.Calls.{Did}
 use Rattle.pending.specs.Told.{pendingNo, answerNo, answerPlace}
 use Rattle.pending.proofs.Told.{check-fine, check-bad}
-use Rattle.pending.proofs.Boards.{did-ill}
+use Rattle.pending.proofs.Boards.{did-ill, did-kept}
 use Rattle.pending.proofs.Ways.{release-bad, release-none, release-done}
 use Rattle.pending.proofs.release.Statement.{statement}
 use Rattle.pending.proofs.release.Tie as tie
@@ -22,13 +22,14 @@ returns : tie.Need-returns
 unfolding pendingNo
 returns c =
     let s = c .before .before .before in
-    let e = c .refusal .ensures in
-    (subst (λ (n : ℕ). Did (releasing (s .args .key)) (s .args .t) n (s .args .t)) (sym (e .0)) (did-ill _ (s .args .t) (sym (c .before .before .well-formed .ensures) ∙ not-true _ (c .before .if1 .taken))), e .1)
+    let e = c .refused .ensures in
+    (did-kept _ _ _ _ (e .0) (e .2) (did-ill _ (s .args .t) (sym (c .before .before .well-formed .ensures) ∙ not-true _ (c .before .if1 .taken))), e .1)
 
 returns-2 : tie.Need-returns-2
 returns-2 c =
-    let e = c .by-check .ensures in
-    (release-bad (c .before .before .before .before .before .before .args .t) (sym (c .before .before .before .before .before .well-formed .ensures) ∙ not-false _ (c .before .before .before .before .if1 .left)) (c .before .before .before .before .before .before .args .key) _ (subst (λ (n : ℕ). 0 < n) (sym (e .0)) (check-bad _ (c .before .before .match .keys2))) (e .0 ∙ c .before .before .before .check-key .ensures), e .1)
+    let e = c .before .by-check .ensures in
+    let k = c .kept .ensures in
+    (did-kept _ _ _ _ (ap answerNo (k .0)) (k .1) (release-bad (c .before .before .before .before .before .before .before .args .t) (sym (c .before .before .before .before .before .before .well-formed .ensures) ∙ not-false _ (c .before .before .before .before .before .if1 .left)) (c .before .before .before .before .before .before .before .args .key) _ (subst (λ (n : ℕ). 0 < n) (sym (e .0)) (check-bad _ (c .before .before .before .match .keys2))) (e .0 ∙ c .before .before .before .before .check-key .ensures)), ap answerPlace (k .0) ∙ e .1)
 
 find-row-requires : tie.Need-find-row-requires
 find-row-requires c κs = fine-table (c .before .before .before .before .before .args .t) (sym (c .before .before .before .before .well-formed .ensures) ∙ not-false _ (c .before .before .before .if1 .left)) .fits
@@ -37,9 +38,9 @@ returns-3 : tie.Need-returns-3
 unfolding pendingNo
 returns-3 c =
     let s = c .before .before .before .before .before .before .before .before in
-    let e = c .refusal2 .ensures in
+    let e = c .refused2 .ensures in
     let f = (subst (Stopped byKey (keyOf (c .before .before .before .before .before .before .before .before .args .key)) (keysOf (c .before .before .before .before .before .before .before .before .args .t)) (c .before .before .find-row .result .at)) (not-true _ (c .before .if2 .taken)) (c .before .before .find-row .ensures .2)) in
-    (subst (λ (n : ℕ). Did (releasing (s .args .key)) (s .args .t) n (s .args .t)) (sym (e .0)) (release-none (s .args .t) (sym (c .before .before .before .before .before .before .before .well-formed .ensures) ∙ not-false _ (c .before .before .before .before .before .before .if1 .left)) (s .args .key) (sym (c .before .before .before .before .before .check-key .ensures) ∙ sym (check-fine _ (c .before .before .before .before .match .keys1))) _ f), e .1)
+    (did-kept _ _ _ _ (e .0) (e .2) (release-none (s .args .t) (sym (c .before .before .before .before .before .before .before .well-formed .ensures) ∙ not-false _ (c .before .before .before .before .before .before .if1 .left)) (s .args .key) (sym (c .before .before .before .before .before .check-key .ensures) ∙ sym (check-fine _ (c .before .before .before .before .match .keys1))) _ f), e .1)
 
 remove-row-requires : tie.Need-remove-row-requires
 remove-row-requires c κs = (c .before .find-row .ensures .1 (not-false _ (c .if2 .left)), fine-table (c .before .before .before .before .before .before .before .args .t) (sym (c .before .before .before .before .before .before .well-formed .ensures) ∙ not-false _ (c .before .before .before .before .before .if1 .left)) .fits)
@@ -53,4 +54,4 @@ returns-4 c =
     (release-done (s .args .t) (sym (c .before .before .before .before .before .before .before .well-formed .ensures) ∙ not-false _ (c .before .before .before .before .before .before .if1 .left)) (s .args .key) (sym (c .before .before .before .before .before .check-key .ensures) ∙ sym (check-fine _ (c .before .before .before .before .match .keys1))) _ _ noRow f (e .0) (e .1), refl)
 
 pub release-spec : {M : Type 1} → statement M
-release-spec = tie.close (tie.spec (λ c κs. search needs) (λ c κs. search needs) returns (λ c κs. search needs) (λ c. search needs) (λ c. search needs) (λ c κs. search needs) returns-2 find-row-requires (λ c κs. search needs) returns-3 remove-row-requires returns-4)
+release-spec = tie.close (tie.spec (λ c κs. search needs) (λ c κs. search needs) returns (λ c κs. search needs) (λ c. search needs) (λ c. search needs) (λ c κs. search needs) (λ c κs. search needs) returns-2 find-row-requires (λ c κs. search needs) returns-3 remove-row-requires returns-4)
