@@ -23,6 +23,7 @@ use Rattle.header.specs.declared.Block.{Block}
 use Rattle.header.specs.declared.Blocks.{Blocks}
 use Rattle.header.specs.declared.Header.{Header}
 use Rattle.header.proofs.Legal.{front-recipients, addressees-legal}
+use Rattle.table.proofs.Parts.{all-at}
 
 there : {A : Type 0} (x : A) (c : Codec A) (b : Bool) (y : A) → b ≡ true → present x c b .check y ≡ 0 → c .check y ≡ 0
 unfolding present
@@ -77,12 +78,6 @@ pub block-response : (b : Block) → block .check b ≡ 0 → b .response .prese
 unfolding response viewed _thenBy_
 block-response b h e = first-zero (stamp .check (b .response .response .stamp)) _ (response-there b h e) .0
 
-all-at : {A : Type 0} (f : A → Bool) (l : List A) (d : A) (j : ℕ) → j < length l → all f l ≡ true → f (getD l j d) ≡ true
-unfolding all
-all-at f [] d j m e = absurd (omega arith)
-all-at f (x ∷ l) d zero m e = and-left (f x) (all f l) e
-all-at f (x ∷ l) d (suc j) m e = all-at f l d j (omega arith) (and-right (f x) (all f l) e)
-
 -- a receipt's code is a number from 1 to 6
 compliance-legal : (b : Block) → block .check b ≡ 0 → b .response .present ≡ true → compliance .check (b .response .response .compliance) ≡ 0
 unfolding response viewed _thenBy_
@@ -118,12 +113,12 @@ module _ (h : Header) (fields : blocks .check (h .blocks) ≡ 0) (rules : rulesK
       (omega (arith, whole-array noBlock block 16 15 (h .blocks .list) (h .blocks .count) fields, count-most noBlock block 16 15 (h .blocks .list) (h .blocks .count) fields))
 
   at : (f : Block → Bool) → all f (usedBlocks (h .blocks)) ≡ true → f here ≡ true
-  at f e = rw (getD-take (h .blocks .count) (h .blocks .list) i noBlock l) at (all-at f (usedBlocks (h .blocks)) noBlock i (omega (arith, used)) e)
+  at f e = rw (getD-take (h .blocks .count) (h .blocks .list) i noBlock l) at (all-at f (usedBlocks (h .blocks)) i noBlock e (omega (arith, used)))
 
   -- each of the rules, by its place
   rule : (j : ℕ) → j < 9 → getD Rules.rules j ruleA (settingOf h) here ≡ true
   unfolding rulesKept
-  rule j m = at (getD Rules.rules j ruleA (settingOf h)) (all-at (λ r. all (r (settingOf h)) (usedBlocks (h .blocks))) Rules.rules ruleA j m rules)
+  rule j m = at (getD Rules.rules j ruleA (settingOf h)) (all-at (λ r. all (r (settingOf h)) (usedBlocks (h .blocks))) Rules.rules j ruleA rules m)
 
   -- a block with requests has an originator
   pub originator-there : here .times .requests .present ≡ true → h .front .originator .present ≡ true

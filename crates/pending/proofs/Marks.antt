@@ -148,25 +148,6 @@ settled-fine a c x y f e s =
 
 -- ---- rows
 
--- a fine row with a fine recipient in the place of one with its address
-pub answered-fine-row : (row r : Row) (y : Recipient) (at : ℕ) → rowFine row ≡ true → recipientFine (row .asked) y ≡ true
-    → Stopped byAddress (addressOf (y .address)) (addressesOf row) at true
-    → r .key ≡ row .key → r .asked ≡ row .asked → r .count ≡ row .count → usedRecipients r ≡ set (usedRecipients row) at y → rowFine r ≡ true
-answered-fine-row row r y at f g s k q n e =
-    let p = fine-row row f in
-    let least : 1 ≤ row .count = p .least in
-    let most : row .count ≤ 16 = p .most in
-    row-fine r (record {
-      key = ap keyFault k ∙ p .key;
-      asked = ap (λ (z : Requests). z .machine || z .acknowledge || z .reply) q ∙ p .asked;
-      least = omega arith;
-      most = omega arith;
-      recipients = ap (λ (z : Requests). all (recipientFine z) (usedRecipients r)) q ∙ ap (all (recipientFine (row .asked))) e ∙ all-replaced (recipientFine (row .asked)) y (usedRecipients row) at g (p .recipients);
-      order =
-          ap (λ (l : List Recipient). increasing byAddress (map (λ x. addressOf (x .address)) l)) e
-          ∙ order-replaced by-address recipientOf y (usedRecipients row) at s (p .order);
-    })
-
 -- a new row: its recipients are a sorted list
 pub new-row-fine : (r : Row) (l : List (Address × Mark)) → keyFault (r .key) ≡ 0 → (r .asked .machine || r .asked .acknowledge || r .asked .reply) ≡ true → 1 ≤ r .count → r .count ≤ 16
     → all (recipientFine (r .asked)) (usedRecipients r) ≡ true → map recipientOf (usedRecipients r) ≡ sort byAddress l → rowFine r ≡ true
