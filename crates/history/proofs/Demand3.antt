@@ -24,6 +24,8 @@ use Rattle.pending.specs.Sheet.{Sheet, sheet, inKeyOrder}
 use Rattle.pending.proofs.SheetIs.{sheet-is, in-key-order}
 use Rattle.listing.specs.Listing.{Listing, listing, listingOf, outputAfter}
 use Rattle.history.specs.History.{Run, tableListing, sheetListing, MayChange, lineFor}
+use Rattle.history.specs.SameTable.{SameTable, Whole}
+use Rattle.history.proofs.SameTables.{see-same}
 use Rattle.history.proofs.Runs.{AllWell, onRows, Went, went}
 use Rattle.history.proofs.Places.{apart, lines-within}
 
@@ -96,3 +98,7 @@ module _ {t e t′ e′ : Table} {xs ys : List ℕ} {ts ts′ : List Table} (pre
   -- and the rows end the same
   pub same-end : see e′ ≡ see e
   same-end = rows-end run′ none′ ∙ changed .sameEnd ∙ sym (rows-end run none)
+
+  -- so that the tables are the same, as document 01 has it; that their arrays have their cells holds of every table of the declared type
+  pub same-table : Whole e′ → Whole e → SameTable e′ e
+  same-table c d = see-same e′ e c d (well-formed run′ none′ .1) (well-formed run none .1) same-end

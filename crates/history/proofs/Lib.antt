@@ -1,3 +1,9 @@
 mod Runs
 mod Places
+mod Faults
+mod SameKeys
 pub mod Demand3
+pub mod Never30
+pub mod SameTables
+pub mod SameCalls
+pub mod SameRuns
