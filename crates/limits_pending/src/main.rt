@@ -1,0 +1,29 @@
+// Calls on the table of pending messages, at the limits of document 01. Each is a line of a script, which is printed
+// with what came of it: `done` or `refused` with the number, the listing, or a row's octets. The file stdout has
+// what each has to be, worked from document 01.
+mod calls;
+mod effects;
+mod lists;
+mod play;
+mod records;
+mod rows;
+mod tell;
+mod words;
+mod wrong;
+
+fn main() {
+    calls::worked();
+    calls::postings();
+    calls::records();
+    calls::receipts();
+    calls::releases();
+    effects::codes();
+    effects::code_two();
+    effects::recipients();
+    effects::keys();
+    effects::names();
+    effects::full();
+    lists::rooms();
+    lists::wrong_count();
+    lists::wrong_rows();
+}
