@@ -1,0 +1,158 @@
+// Reads standard input, a datagram in hexadecimal on each line, plays each to the table of pending
+// messages, and prints the table's listing.
+ghost use mathlib.Core.Path.{_≡_};
+ghost use Prim.Native.Nat.{_≤_, _<_};
+ghost use lib.ListN.{length};
+use libc::STDIN_FILENO;
+use libc::STDOUT_FILENO;
+use lines::LineRead;
+use listing::Listed;
+use table::Table;
+
+// The table, and how many characters of a line were read that has not ended.
+pub struct Run {
+    pub table: Table,
+    pub held: usize,
+}
+
+// How far a chunk was read: the characters held of the line, the place in the chunk, and whether the
+// line ended there.
+pub struct Stop {
+    pub held: usize,
+    pub at: usize,
+    pub ended: bool,
+}
+
+// One more character of a line. Of a longer line the first 16,385 are held: too many for a datagram, so
+// such a line is skipped.
+fn hold(line: &mut [u8; 16385], held: usize, c: u8) -> usize {
+    if 16385 <= held {
+        return held;
+    }
+    line[held] = c;
+    held + 1
+}
+
+// The end of a line.
+fn end_line(t: Table, line: &[u8; 16385], held: usize) -> Table {
+    if 16385 < held {
+        return t;
+    }
+    let mut out = [0u8; 8192];
+    let whole = &line[..];
+    let r = lines::line_octets(&whole[..held], &mut out);
+    let LineRead::Octets(size) = r else {
+        return t;
+    };
+    let n = size.0;
+    if 8192 < n {
+        return t;
+    }
+    lines::play(t, &out[..n])
+}
+
+// The characters of a chunk from a place on, to the end of the line or of the chunk. The table stays
+// out of this loop: it is large.
+fn scan(line: &mut [u8; 16385], held: usize, chunk: &[u8], from: usize) -> Stop
+    requires { ⌜ from < length (now chunk) ⌝ }
+    ensures { λ r. ⌜ (from < r .at) × (r .at ≤ length (now (chunk .entry))) ⌝ }
+{
+    let mut n = held;
+    let mut i = from;
+    while i < chunk.len() {
+        let c = chunk[i];
+        i += 1;
+        if c == 10 {
+            return Stop {
+                held: n,
+                at: i,
+                ended: true,
+            };
+        }
+        let m = hold(line, n, c);
+        n = m;
+    }
+    Stop {
+        held: n,
+        at: i,
+        ended: false,
+    }
+}
+
+// What a scan makes of the table and the line.
+fn settle(t: Table, line: &[u8; 16385], s: Stop) -> Run {
+    let n = s.held;
+    if s.ended {
+        let next = end_line(t, line, n);
+        return Run {
+            table: next,
+            held: 0,
+        };
+    }
+    Run { table: t, held: n }
+}
+
+// A chunk of the input.
+fn take(r: Run, line: &mut [u8; 16385], chunk: &[u8]) -> Run {
+    let mut run = r;
+    let mut at: usize = 0;
+    while at < chunk.len() {
+        let n = run.held;
+        let s = scan(line, n, chunk, at);
+        at = s.at;
+        let t = run.table;
+        let next = settle(t, line, s);
+        run = next;
+    }
+    run
+}
+
+// All of the input; a last line may lack its line feed. A proved loop has to end, and nothing says that
+// the input does, so the turns are counted down from a number that no run uses up.
+fn take_all() -> Table {
+    let mut line = [0u8; 16385];
+    let mut chunk = [0u8; 4096];
+    let t = table::zero::empty();
+    let mut run = Run { table: t, held: 0 };
+    let mut turns = u64::MAX;
+    while turns > 0 {
+        let got = libc::read(STDIN_FILENO, &mut chunk);
+        let n = io::count(got, &chunk);
+        if n == 0 {
+            break;
+        }
+        let next = take(run, &mut line, &chunk[..n]);
+        run = next;
+        turns -= 1;
+    }
+    let last = run.table;
+    let n = run.held;
+    end_line(last, &line, n)
+}
+
+// A row of the listing. A row has at most 4,096 octets.
+fn print_row(t: Table, number: u32) {
+    let mut out = [0u8; 4096];
+    let r = listing::list_row(t, number, &mut out);
+    let Listed::Done(size) = r else {
+        return;
+    };
+    let n = size.0;
+    if n <= 4096 {
+        io::write_all(STDOUT_FILENO, &out[..n]);
+    }
+}
+
+// Row 0 and every row that a table can have; behind the last row nothing is listed.
+fn print_rows(t: Table) {
+    let mut i: u32 = 0;
+    while i < 33 {
+        print_row(t, i);
+        i += 1;
+    }
+}
+
+fn main() {
+    let t = take_all();
+    print_rows(t);
+}
