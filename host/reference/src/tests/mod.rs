@@ -1,0 +1,184 @@
+//! Tests, and small helpers that they share.
+
+mod board;
+mod listing;
+mod program;
+mod random;
+mod reading;
+mod writing;
+
+use crate::*;
+
+/// The paper's worked header A; one octet of data must follow.
+pub const A: [u8; 5] = [0x02, 0x08, 0x00, 0x00, 0x00];
+/// Header B; data must follow.
+pub const B: [u8; 16] = [
+    0xE2, 0x67, 0x00, 0x00, 0x1D, 0x00, 0x00, 0x00, 0x01, 0x00, 0xC1, 0x37, 0xE0, 0x76, 0x33, 0x00,
+];
+/// Header C, a receipt, hence a whole datagram.
+pub const C: [u8; 16] = [
+    0xE2, 0x01, 0x00, 0x00, 0x7D, 0x06, 0x00, 0x00, 0x01, 0x00, 0x08, 0xBE, 0x01, 0xB7, 0x5B, 0x00,
+];
+
+pub fn with_data(header: &[u8], data: &[u8]) -> Vec<u8> {
+    let mut all = header.to_vec();
+    all.extend_from_slice(data);
+    all
+}
+
+/// Puts bits together without any help from the library, so that faulty
+/// datagrams can be made and the library's packing isn't tested by itself.
+pub struct Hand {
+    pub bits: Vec<bool>,
+}
+
+impl Hand {
+    pub fn new() -> Hand {
+        Hand { bits: Vec::new() }
+    }
+
+    pub fn place(&self) -> usize {
+        self.bits.len()
+    }
+
+    /// A number, lowest bit first. Wide runs of zero bits are made with it too.
+    pub fn n(&mut self, value: u32, width: usize) -> &mut Hand {
+        for i in 0..width {
+            self.bits.push(i < 32 && (value >> i) & 1 == 1);
+        }
+        self
+    }
+
+    pub fn chars(&mut self, text: &[u8]) -> &mut Hand {
+        for c in text {
+            self.n(u32::from(*c), 7);
+        }
+        self
+    }
+
+    /// An address with a number.
+    pub fn urn(&mut self, urn: u32) -> &mut Hand {
+        self.n(1, 1).n(urn, 24).n(0, 1)
+    }
+
+    /// Version 2 without compression and addresses, up to G3's presence bit.
+    pub fn start(&mut self) -> &mut Hand {
+        self.n(2, 4).n(0, 1).n(0, 1).n(0, 1).n(0, 1)
+    }
+
+    pub fn dtg(&mut self) -> &mut Hand {
+        self.n(96, 7).n(7, 4).n(3, 5).n(16, 5).n(27, 6).n(55, 6)
+    }
+
+    /// The smallest block there is, with nothing after it: recurrence bit 0,
+    /// UMF 2, then 19 zero bits.
+    pub fn last_block(&mut self) -> &mut Hand {
+        self.n(0, 1).n(2, 4).n(0, 19)
+    }
+
+    pub fn octets(&self) -> Vec<u8> {
+        let mut octets = vec![0u8; (self.bits.len() + 7) / 8];
+        for (k, bit) in self.bits.iter().enumerate() {
+            if *bit {
+                octets[k / 8] |= 1 << (k % 8);
+            }
+        }
+        octets
+    }
+
+    /// With one octet of data behind.
+    pub fn datagram(&self) -> Vec<u8> {
+        with_data(&self.octets(), &[0xAA])
+    }
+}
+
+pub fn urn(number: u32) -> Address {
+    Address { urn: Some(number), name: None }
+}
+
+pub fn name(text: &[u8]) -> Address {
+    Address { urn: None, name: Some(text.to_vec()) }
+}
+
+pub fn both() -> Address {
+    Address { urn: Some(1), name: Some(b"X".to_vec()) }
+}
+
+pub fn neither() -> Address {
+    Address { urn: None, name: None }
+}
+
+pub fn dtg() -> Dtg {
+    Dtg { year: 96, month: 7, day: 3, hour: 16, minute: 27, second: 55 }
+}
+
+pub fn stamp() -> Stamp {
+    Stamp { dtg: dtg(), extension: None }
+}
+
+pub fn extended(extension: u32) -> Stamp {
+    Stamp { dtg: dtg(), extension: Some(extension) }
+}
+
+pub fn requests(machine: bool, acknowledge: bool, reply: bool) -> Requests {
+    Requests { machine, acknowledge, reply }
+}
+
+pub fn plain_block() -> Block {
+    Block {
+        umf: 2,
+        standard_version: None,
+        identity: None,
+        file_name: None,
+        message_size: None,
+        operation: 0,
+        retransmit: 0,
+        precedence: 0,
+        classification: 0,
+        marking: None,
+        stamp: None,
+        perishable: None,
+        requests: None,
+        response: None,
+        references: None,
+    }
+}
+
+pub fn plain_header() -> Header {
+    Header {
+        version: 2,
+        compression: None,
+        originator: None,
+        recipients: None,
+        information: None,
+        sized: false,
+        blocks: vec![plain_block()],
+    }
+}
+
+/// An original message that asks; goes with a count of 1.
+pub fn message(from: Address, to: Vec<Address>, stamp: Stamp, asks: Requests) -> Header {
+    let mut h = plain_header();
+    h.originator = Some(from);
+    h.recipients = Some(to);
+    h.blocks[0].stamp = Some(stamp);
+    h.blocks[0].requests = Some(asks);
+    h
+}
+
+pub fn response(stamp: Stamp, code: u32) -> Response {
+    Response { stamp, code, cantco: None, cantpro: None, amplification: None }
+}
+
+/// A receipt; goes with a count of 0.
+pub fn answer(from: Address, to: Address, stamp: Stamp, code: u32) -> Header {
+    let mut h = plain_header();
+    h.originator = Some(from);
+    h.recipients = Some(vec![to]);
+    h.blocks[0].response = Some(response(stamp, code));
+    h
+}
+
+pub fn reference(from: u32) -> Reference {
+    Reference { address: urn(from), stamp: stamp() }
+}

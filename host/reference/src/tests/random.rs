@@ -1,0 +1,282 @@
+//! Many records from a small number generator with a fixed start, so that each
+//! run is the same. What is looked for: both directions agree.
+
+use super::*;
+
+struct Dice(u64);
+
+impl Dice {
+    fn next(&mut self) -> u32 {
+        self.0 = self.0.wrapping_mul(6364136223846793005).wrapping_add(1442695040888963407);
+        (self.0 >> 33) as u32
+    }
+
+    /// From 0 up to but without `limit`.
+    fn below(&mut self, limit: u32) -> u32 {
+        self.next() % limit
+    }
+
+    fn coin(&mut self) -> bool {
+        self.below(2) == 1
+    }
+
+    fn text(&mut self, maximum: u32) -> Vec<u8> {
+        let length = match self.below(4) {
+            0 => maximum,
+            1 => maximum - 1,
+            _ => 1 + self.below(maximum),
+        };
+        (0..length).map(|_| self.below(127) as u8).collect()
+    }
+
+    fn maybe(&mut self, limit: u32) -> Option<u32> {
+        if self.coin() {
+            Some(self.below(limit))
+        } else {
+            None
+        }
+    }
+
+    fn maybe_text(&mut self, maximum: u32) -> Option<Vec<u8>> {
+        if self.coin() {
+            Some(self.text(maximum))
+        } else {
+            None
+        }
+    }
+
+    fn address(&mut self) -> Address {
+        if self.coin() {
+            urn(self.below(1 << 24))
+        } else {
+            Address { urn: None, name: Some(self.text(64)) }
+        }
+    }
+
+    fn dtg(&mut self) -> Dtg {
+        Dtg {
+            year: self.below(100),
+            month: 1 + self.below(12),
+            day: 1 + self.below(31),
+            hour: self.below(24),
+            minute: self.below(60),
+            second: self.below(60),
+        }
+    }
+
+    fn stamp(&mut self) -> Stamp {
+        Stamp { dtg: self.dtg(), extension: self.maybe(4096) }
+    }
+
+    /// A valid record and the octets of its user data.
+    fn record(&mut self) -> (Header, u64) {
+        let mut h = plain_header();
+        if self.coin() {
+            h.originator = Some(self.address());
+        }
+        let g2 = self.below(17);
+        if g2 > 0 && self.coin() {
+            h.recipients = Some((0..g2).map(|_| self.address()).collect());
+        }
+        let taken = h.recipients.as_ref().map_or(0, |l| l.len() as u32);
+        let g3 = self.below(17 - taken);
+        if g3 > 0 && self.coin() {
+            h.information = Some((0..g3).map(|_| self.address()).collect());
+        }
+        let blocks = match self.below(3) {
+            0 => 1,
+            1 => 1 + self.below(3),
+            _ => 1 + self.below(16),
+        };
+        h.sized = blocks > 1 || self.coin();
+        h.compression = self.maybe(2);
+        let mut count = 0;
+        h.blocks = Vec::new();
+        for _ in 0..blocks {
+            let mut b = plain_block();
+            b.umf = self.below(9);
+            b.standard_version = self.maybe(16);
+            if self.coin() && b.umf != 1 && b.umf != 4 {
+                b.identity = Some(Identity {
+                    fad: self.below(16),
+                    number: self.below(128),
+                    subtype: self.maybe(128),
+                });
+            }
+            b.file_name = self.maybe_text(64);
+            b.operation = self.below(4);
+            b.retransmit = self.below(2);
+            b.precedence = self.below(8);
+            b.classification = self.below(4);
+            b.marking = self.maybe_text(32);
+            if self.coin() {
+                b.stamp = Some(self.stamp());
+            }
+            let answers = self.coin() && h.compression.is_none() && b.umf != 4;
+            if answers {
+                let code = 1 + self.below(6);
+                b.response = Some(Response {
+                    stamp: self.stamp(),
+                    code,
+                    cantco: if code == 6 { self.maybe(8) } else { None },
+                    cantpro: if code == 2 { self.maybe(64) } else { None },
+                    amplification: self.maybe_text(50),
+                });
+            } else {
+                if self.coin() {
+                    b.perishable = Some(self.dtg());
+                }
+                if self.coin() && h.originator.is_some() {
+                    let ask = b.stamp.is_some();
+                    b.requests = Some(requests(
+                        ask && self.coin(),
+                        ask && self.coin(),
+                        ask && self.coin(),
+                    ));
+                }
+            }
+            let size = if answers { 0 } else { 1 + self.below(40) };
+            count += u64::from(size);
+            if blocks > 1 || self.coin() {
+                b.message_size = Some(size);
+            }
+            if self.coin() {
+                let n = 1 + self.below(4);
+                b.references = Some(
+                    (0..n)
+                        .map(|_| Reference { address: self.address(), stamp: self.stamp() })
+                        .collect(),
+                );
+            }
+            h.blocks.push(b);
+        }
+        (h, count)
+    }
+}
+
+#[test]
+fn written_records_are_read_back() {
+    let mut dice = Dice(1);
+    for _ in 0..400 {
+        let (h, count) = dice.record();
+        let octets = check(&h, count).expect("the generator makes valid records");
+        let mut d: Vec<u8> = (0..octets + count as usize).map(|_| dice.next() as u8).collect();
+        let data = d[octets..].to_vec();
+        assert_eq!(write(&h, count, &mut d), Ok(octets));
+        assert_eq!(&d[octets..], &data[..]);
+        assert_eq!(read(&d), Ok((h.clone(), octets)));
+        assert_eq!(user_data(&d), &data[..]);
+        // One octet of data more or less is only right where no size is told.
+        assert!(check(&h, count + 1).is_ok() == read(&with_data(&d, &[0])).is_ok());
+    }
+}
+
+#[test]
+fn a_cut_header_runs_out() {
+    let mut dice = Dice(2);
+    for _ in 0..20 {
+        let (h, count) = dice.record();
+        let octets = check(&h, count).unwrap();
+        let mut d = vec![0; octets];
+        write(&h, count, &mut d).unwrap();
+        for cut in (0..octets).step_by(7) {
+            assert_eq!(read(&d[..cut]).unwrap_err().0, 1);
+        }
+    }
+}
+
+#[test]
+fn what_is_read_is_written_back() {
+    let mut dice = Dice(3);
+    let mut accepted = 0;
+    let mut seen = [0u32; 13];
+    for _ in 0..1500 {
+        let (h, count) = dice.record();
+        let octets = check(&h, count).unwrap();
+        let mut d = vec![0xA5; octets + count as usize];
+        write(&h, count, &mut d).unwrap();
+        // Turn a few bits round, then see whether it can still be read.
+        for _ in 0..1 + dice.below(2) {
+            let k = dice.below(octets as u32 * 8) as usize;
+            d[k / 8] ^= 1 << (k % 8);
+        }
+        match read(&d) {
+            Ok((changed, length)) => {
+                accepted += 1;
+                let rest = (d.len() - length) as u64;
+                let mut out = vec![0; length];
+                assert_eq!(write(&changed, rest, &mut out), Ok(length));
+                assert_eq!(out, &d[..length]);
+            }
+            Err((number, place)) => {
+                seen[number as usize] += 1;
+                assert!(place <= d.len() * 8);
+                if number == 8 || number == 10 || number == 12 {
+                    assert_eq!(place, 0);
+                }
+            }
+        }
+    }
+    assert!(accepted > 100, "{accepted}");
+    for number in [1, 2, 3, 4, 5, 6, 7, 8, 9, 10] {
+        assert!(seen[number] > 0, "refusal {number} never came up: {seen:?}");
+    }
+}
+
+#[test]
+fn calls_keep_the_board_in_order_and_refusals_leave_it_alone() {
+    let mut dice = Dice(4);
+    let mut board = Board::new();
+    let mut seen = [0u32; 31];
+    // Few names and times, so that calls meet.
+    let some_address = |dice: &mut Dice| match dice.below(5) {
+        0 => name(b"A"),
+        1 => name(b"AB"),
+        n => urn(n),
+    };
+    let some_stamp = |dice: &mut Dice| {
+        let mut s = stamp();
+        s.dtg.second = 50 + dice.below(4);
+        s.extension = dice.maybe(2);
+        s
+    };
+    for _ in 0..6000 {
+        let before = board.clone();
+        let from = some_address(&mut dice);
+        let s = some_stamp(&mut dice);
+        let got = match dice.below(if board.rows.len() < 30 { 6 } else { 7 }) {
+            0..=3 => {
+                let n = dice.below(4);
+                let to: Vec<Address> = (0..n).map(|_| some_address(&mut dice)).collect();
+                let asks = requests(dice.coin(), dice.coin(), dice.coin());
+                let mut h = message(from, to, s, asks);
+                if n == 0 {
+                    h.recipients = None;
+                }
+                post(&mut board, &h, dice.below(20).min(1), 1)
+            }
+            4 | 5 => {
+                let to = some_address(&mut dice);
+                let mut h = answer(from, to, s, 1 + dice.below(6));
+                if dice.below(10) == 0 {
+                    h.originator = None;
+                }
+                receipt(&mut board, &h, 1, 0)
+            }
+            _ => {
+                let k = Key { address: from, stamp: s };
+                release(&mut board, &k)
+            }
+        };
+        seen[got as usize] += 1;
+        assert!(well_formed(&board));
+        if got != 0 {
+            assert_eq!(board, before);
+        } else {
+            assert_ne!(board, before);
+        }
+    }
+    for number in [0, 20, 21, 22, 23, 25, 26, 27, 28, 29] {
+        assert!(seen[number] > 0, "refusal {number} never came up: {seen:?}");
+    }
+}

@@ -1,0 +1,312 @@
+//! From a record to header octets, and the checks that come before.
+
+use crate::bits::BitWriter;
+use crate::legal::*;
+use crate::rules::{rules_hold, sizes_hold};
+use crate::types::*;
+
+/// Every refusal of the writer except 11, with `count` octets of user data to
+/// follow. If there is none, gives the octets that the header will take.
+pub fn check(h: &Header, count: u64) -> Result<usize, u32> {
+    check_fields(h)?;
+    if !rules_hold(h) {
+        return Err(8);
+    }
+    if !sizes_hold(h, count) {
+        return Err(10);
+    }
+    let octets = header_octets(h).len();
+    // The sum is taken wider than the count, which may be as large as it likes.
+    if octets as u128 + u128::from(count) > MAX_DATAGRAM as u128 {
+        return Err(12);
+    }
+    Ok(octets)
+}
+
+/// Writes the header to the front of `out` and tells how many octets it took.
+/// Nothing is touched before every check has passed.
+pub fn write(h: &Header, count: u64, out: &mut [u8]) -> Result<usize, u32> {
+    let octets = check(h, count)?;
+    if out.len() < octets {
+        return Err(11);
+    }
+    let header = header_octets(h);
+    for i in 0..octets {
+        out[i] = header[i];
+    }
+    Ok(octets)
+}
+
+// ---------------------------------------------------------------------------
+// Checks of single fields, in the order of the bits.
+
+fn check_fields(h: &Header) -> Result<(), u32> {
+    if !legal_version(h.version) {
+        return Err(2);
+    }
+    if let Some(compression) = h.compression {
+        check_code(compression, legal_compression)?;
+    }
+    if let Some(originator) = &h.originator {
+        check_address(originator)?;
+    }
+
+    let mut taken = 0;
+    if let Some(list) = &h.recipients {
+        taken = list.len();
+        check_length(list.len(), list.len(), MAX_ADDRESSEES)?;
+        for address in list {
+            check_address(address)?;
+        }
+    }
+    if let Some(list) = &h.information {
+        // Both groups draw on the same sixteen places; that is found out here,
+        // once the recipients themselves are in order.
+        check_length(list.len(), taken + list.len(), MAX_ADDRESSEES)?;
+        for address in list {
+            check_address(address)?;
+        }
+    }
+
+    check_length(h.blocks.len(), h.blocks.len(), MAX_BLOCKS)?;
+    for b in &h.blocks {
+        check_block(b)?;
+    }
+    Ok(())
+}
+
+/// A list that is there holds one entry at least, and with those counted
+/// before it no more than the maximum.
+fn check_length(own: usize, together: usize, maximum: usize) -> Result<(), u32> {
+    if own == 0 || together > maximum {
+        return Err(5);
+    }
+    Ok(())
+}
+
+fn check_code(value: u32, legal: fn(u32) -> bool) -> Result<(), u32> {
+    if !legal(value) {
+        return Err(3);
+    }
+    Ok(())
+}
+
+/// A field that takes all values of its width has no illegal code in a
+/// datagram, but a record can hold a number too large for it.
+fn check_width(value: u32, width: usize) -> Result<(), u32> {
+    if !fits(value, width) {
+        return Err(3);
+    }
+    Ok(())
+}
+
+fn check_optional_width(value: Option<u32>, width: usize) -> Result<(), u32> {
+    match value {
+        Some(value) => check_width(value, width),
+        None => Ok(()),
+    }
+}
+
+fn check_text(text: &[u8], maximum: usize) -> Result<(), u32> {
+    if text.is_empty() || text.len() > maximum {
+        return Err(4);
+    }
+    for character in text {
+        if *character >= MARKER {
+            return Err(4);
+        }
+    }
+    Ok(())
+}
+
+fn check_optional_text(text: &Option<Vec<u8>>, maximum: usize) -> Result<(), u32> {
+    match text {
+        Some(text) => check_text(text, maximum),
+        None => Ok(()),
+    }
+}
+
+/// The number stands first, then the indicator that settles the form, then the
+/// name: hence 3, 6, 4.
+pub fn check_address(a: &Address) -> Result<(), u32> {
+    check_optional_width(a.urn, 24)?;
+    if a.urn.is_some() == a.name.is_some() {
+        return Err(6);
+    }
+    check_optional_text(&a.name, MAX_UNIT_NAME)
+}
+
+fn check_dtg(d: &Dtg) -> Result<(), u32> {
+    check_code(d.year, legal_year)?;
+    check_code(d.month, legal_month)?;
+    check_code(d.day, legal_day)?;
+    check_code(d.hour, legal_hour)?;
+    check_code(d.minute, legal_minute)?;
+    check_code(d.second, legal_second)
+}
+
+pub fn check_stamp(s: &Stamp) -> Result<(), u32> {
+    check_dtg(&s.dtg)?;
+    check_optional_width(s.extension, 12)
+}
+
+fn check_block(b: &Block) -> Result<(), u32> {
+    check_code(b.umf, legal_umf)?;
+    check_optional_width(b.standard_version, 4)?;
+    if let Some(identity) = &b.identity {
+        check_width(identity.fad, 4)?;
+        check_width(identity.number, 7)?;
+        check_optional_width(identity.subtype, 7)?;
+    }
+    check_optional_text(&b.file_name, MAX_FILE_NAME)?;
+    check_optional_width(b.message_size, 20)?;
+    check_width(b.operation, 2)?;
+    check_width(b.retransmit, 1)?;
+    check_width(b.precedence, 3)?;
+    check_width(b.classification, 2)?;
+    check_optional_text(&b.marking, MAX_MARKING)?;
+    if let Some(stamp) = &b.stamp {
+        check_stamp(stamp)?;
+    }
+    if let Some(dtg) = &b.perishable {
+        check_dtg(dtg)?;
+    }
+    // The three request bits are single bits and cannot be wrong.
+    if let Some(r) = &b.response {
+        check_stamp(&r.stamp)?;
+        check_code(r.code, legal_response_code)?;
+        check_optional_width(r.cantco, 3)?;
+        check_optional_width(r.cantpro, 6)?;
+        check_optional_text(&r.amplification, MAX_AMPLIFICATION)?;
+    }
+    if let Some(list) = &b.references {
+        check_length(list.len(), list.len(), MAX_REFERENCES)?;
+        for reference in list {
+            check_address(&reference.address)?;
+            check_stamp(&reference.stamp)?;
+        }
+    }
+    Ok(())
+}
+
+// ---------------------------------------------------------------------------
+// The octets of a record whose fields are in order.
+
+/// The header is put together twice: the first time only to learn its length,
+/// which does not depend on the number that stands in the size field. The
+/// longest header takes under 10,000 octets, so the number fits 16 bits.
+fn header_octets(h: &Header) -> Vec<u8> {
+    let length = header_octets_with_size(h, 0).len();
+    header_octets_with_size(h, length as u32)
+}
+
+fn header_octets_with_size(h: &Header, size: u32) -> Vec<u8> {
+    let mut w = BitWriter::new();
+    w.number(h.version, 4);
+    w.optional_number(h.compression, 2);
+
+    w.flag(h.originator.is_some());
+    if let Some(originator) = &h.originator {
+        put_address(&mut w, originator);
+    }
+    put_addressees(&mut w, &h.recipients);
+    put_addressees(&mut w, &h.information);
+
+    w.flag(h.sized);
+    if h.sized {
+        w.number(size, 16);
+    }
+
+    for (i, b) in h.blocks.iter().enumerate() {
+        w.flag(i + 1 < h.blocks.len());
+        put_block(&mut w, b);
+    }
+    w.octets()
+}
+
+fn put_address(w: &mut BitWriter, a: &Address) {
+    w.optional_number(a.urn, 24);
+    w.optional_text(&a.name, MAX_UNIT_NAME);
+}
+
+fn put_addressees(w: &mut BitWriter, addressees: &Option<Vec<Address>>) {
+    w.flag(addressees.is_some());
+    if let Some(list) = addressees {
+        for (i, address) in list.iter().enumerate() {
+            w.flag(i + 1 < list.len());
+            put_address(w, address);
+        }
+    }
+}
+
+fn put_dtg(w: &mut BitWriter, d: &Dtg) {
+    w.number(d.year, 7);
+    w.number(d.month, 4);
+    w.number(d.day, 5);
+    w.number(d.hour, 5);
+    w.number(d.minute, 6);
+    w.number(d.second, 6);
+}
+
+fn put_stamp(w: &mut BitWriter, s: &Stamp) {
+    put_dtg(w, &s.dtg);
+    w.optional_number(s.extension, 12);
+}
+
+fn put_block(w: &mut BitWriter, b: &Block) {
+    w.number(b.umf, 4);
+    w.optional_number(b.standard_version, 4);
+
+    w.flag(b.identity.is_some());
+    if let Some(identity) = &b.identity {
+        w.number(identity.fad, 4);
+        w.number(identity.number, 7);
+        w.optional_number(identity.subtype, 7);
+    }
+
+    w.optional_text(&b.file_name, MAX_FILE_NAME);
+    w.optional_number(b.message_size, 20);
+    w.number(b.operation, 2);
+    w.number(b.retransmit, 1);
+    w.number(b.precedence, 3);
+    w.number(b.classification, 2);
+    w.optional_text(&b.marking, MAX_MARKING);
+
+    w.flag(b.stamp.is_some());
+    if let Some(stamp) = &b.stamp {
+        put_stamp(w, stamp);
+    }
+
+    w.flag(b.perishable.is_some());
+    if let Some(dtg) = &b.perishable {
+        put_dtg(w, dtg);
+    }
+
+    w.flag(b.requests.is_some());
+    if let Some(q) = &b.requests {
+        w.flag(q.machine);
+        w.flag(q.acknowledge);
+        w.flag(q.reply);
+    }
+
+    w.flag(b.response.is_some());
+    if let Some(r) = &b.response {
+        put_stamp(w, &r.stamp);
+        w.number(r.code, 3);
+        w.optional_number(r.cantco, 3);
+        w.optional_number(r.cantpro, 6);
+        w.optional_text(&r.amplification, MAX_AMPLIFICATION);
+    }
+
+    w.flag(b.references.is_some());
+    if let Some(list) = &b.references {
+        for (i, reference) in list.iter().enumerate() {
+            w.flag(i + 1 < list.len());
+            put_address(w, &reference.address);
+            put_stamp(w, &reference.stamp);
+        }
+    }
+
+    // The security group is never sent.
+    w.flag(false);
+}
