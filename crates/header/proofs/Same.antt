@@ -33,7 +33,7 @@ unit-name-agrees : (b : Bool) → Agrees (unitName b) sameOptionalText
 unfolding unitName sameOptionalText tested flag
 unit-name-agrees b = shaped-agrees _ _ (present-agrees noText (must b 6) (λ x. refl) (text-agrees 64)) (λ x. refl)
 
-address-agrees : Agrees address sameAddress
+pub address-agrees : Agrees address sameAddress
 unfolding address sameAddress unitName viewed _thenBy_ tested
 address-agrees = shaped-agrees _ _ (thenBy-agrees (may 24 0 16777215) (λ u. unit-name-agrees (not (u .present))) (λ u v y. refl)) (λ x. refl)
 
@@ -81,7 +81,7 @@ dtg-agrees : Agrees dtg _≡_
 unfolding dtg date time viewed _thenBy_ number
 dtg-agrees = exact-agrees (λ x. refl)
 
-stamp-agrees : Agrees stamp sameStamp
+pub stamp-agrees : Agrees stamp sameStamp
 unfolding stamp sameStamp
 stamp-agrees = shaped-agrees _ _ (and-agrees dtg-agrees (may 12 0 4095)) (λ x. refl)
 

@@ -9,7 +9,6 @@ use mathlib.Core.Bool.{true}
 use mathlib.Core.List.{List, [], _∷_, _++_, map, map-map}
 use lib.ListN.{length}
 use native.Mathlib.Omega.{arith}
-use Rattle.header.specs.Rules.{all}
 use Rattle.order.specs.Values.{byKey}
 use Rattle.order.specs.Keyed.{sort}
 use Rattle.order.specs.Calls.{Rows, board}
@@ -17,7 +16,7 @@ use Rattle.order.specs.Sheet as theory
 use Rattle.order.specs.Runs.{exchange, final, answers, states, Changed}
 use Rattle.order.proofs.Calls as calls
 use Rattle.table.specs.Rows.{see}
-use Rattle.table.specs.WellFormed.{increasing, wellFormed}
+use Rattle.table.specs.WellFormed.{wellFormed}
 use Rattle.table.specs.declared.Table.{Table}
 use Rattle.pending.specs.Arguments.{Arguments, callOf}
 use Rattle.pending.specs.Sheet.{Sheet, sheet, inKeyOrder}
@@ -26,18 +25,8 @@ use Rattle.listing.specs.Listing.{Listing, listing, listingOf, outputAfter}
 use Rattle.history.specs.History.{Run, tableListing, sheetListing, MayChange, lineFor}
 use Rattle.history.specs.SameTable.{SameTable, Whole}
 use Rattle.history.proofs.SameTables.{see-same}
-use Rattle.history.proofs.Runs.{AllWell, onRows, Went, went}
+use Rattle.history.proofs.Runs.{AllWell, onRows, Went, went, empty-well, no-rows}
 use Rattle.history.proofs.Places.{apart, lines-within}
-
--- a table with no used row
-module _ (t : Table) (none : t .count ≡ 0) where
-  empty-well : wellFormed t ≡ true
-  unfolding wellFormed all increasing
-  empty-well = rw none
-
-  no-rows : see t ≡ []
-  unfolding see
-  no-rows = rw none
 
 -- the sheet is the theory's
 plain : sheet ≡ (λ (x : Arguments). theory.sheet (callOf x))

@@ -26,7 +26,7 @@ use Rattle.pending.specs.Arguments.{Arguments, posting, receiving, releasing, h
 use Rattle.listing.specs.Text.{listed}
 use Rattle.listing.specs.Listing.{done, rejected, listingOf, listing}
 use Rattle.history.specs.History.{Run}
-use Rattle.history.proofs.Runs.{AllWell, onRows, went}
+use Rattle.history.proofs.Runs.{AllWell, onRows, went, empty-well}
 use Rattle.history.proofs.Faults.{fault-least, key-least}
 
 -- ---- every number is below 30
@@ -111,10 +111,6 @@ answers-none (c ∷ cs) s = (λ e. absurd (omega (arith, board-below c s)), answ
 -- a run from a well-formed table
 pub never-30-well : {t e : Table} {cs : List Arguments} {xs : List ℕ} {ts : List Table} → Run t cs xs ts e → wellFormed t ≡ true → None30 xs
 never-30-well {t = t} {cs = cs} run w = rw (went run w .answered) (answers-none cs (see t))
-
-empty-well : (t : Table) → t .count ≡ 0 → wellFormed t ≡ true
-unfolding wellFormed all increasing
-empty-well t empty = rw empty
 
 -- a run from a table with no used row
 pub never-30 : {t e : Table} {cs : List Arguments} {xs : List ℕ} {ts : List Table} → Run t cs xs ts e → t .count ≡ 0 → None30 xs

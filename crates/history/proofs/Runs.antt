@@ -4,10 +4,11 @@ use mathlib.Core.Path.{_≡_, refl, ap, ap₂, sym, _∙_}
 use mathlib.Core.Bool.{true}
 use mathlib.Core.List.{List, [], _∷_, map}
 use Rattle.codec.specs.Answer.{pick}
+use Rattle.header.specs.Rules.{all}
 use Rattle.order.specs.Calls.{Rows, board}
 use Rattle.order.specs.Runs.{final, answers, states, stop, call}
 use Rattle.table.specs.Rows.{see}
-use Rattle.table.specs.WellFormed.{wellFormed}
+use Rattle.table.specs.WellFormed.{increasing, wellFormed}
 use Rattle.table.specs.declared.Table.{Table}
 use Rattle.pending.specs.Arguments.{Arguments, callOf}
 use Rattle.pending.specs.Calls.{Did}
@@ -42,3 +43,13 @@ went (call {b = t} {b′ = t′} {c = c} {x = x} d r) w =
       well = (w, k .well);
       endWell = k .endWell;
     }
+
+-- a table with no used row
+module _ (t : Table) (none : t .count ≡ 0) where
+  pub empty-well : wellFormed t ≡ true
+  unfolding wellFormed all increasing
+  empty-well = rw none
+
+  pub no-rows : see t ≡ []
+  unfolding see
+  no-rows = rw none

@@ -33,6 +33,7 @@ use Rattle.order.specs.declared.Key.{Key as DeclaredKey}
 use Rattle.table.specs.Rows.{askOf}
 use Rattle.table.specs.WellFormed.{keyFault}
 use Rattle.pending.specs.Arguments.{posting, receiving, releasing, hasBlock, blockAt, asks, recipientsOf, someRecipient, oneRecipient, firstRecipient, postingKey, receiptKey, postingFault, receiptFault, named, callOf}
+use Rattle.pending.proofs.Legal.{front-originator}
 use Rattle.pending.proofs.Names.{Posts, posts, Answers, answers}
 use Rattle.history.specs.SameTable.{sameKey}
 use Rattle.history.proofs.SameKeys.{and-same, key-check, address-same, key-same}
@@ -88,15 +89,7 @@ module _ (h : Header) (f : fieldsFault h ≡ 0) where
       omega (arith, whole-array noBlock block 16 15 (h .blocks .list) (h .blocks .count) g, count-most noBlock block 16 15 (h .blocks .list) (h .blocks .count) g)
 
   from-legal : h .front .originator .present ≡ true → address .check (h .front .originator .address) ≡ 0
-  unfolding front originator viewed _thenBy_ flag first present
-  from-legal e =
-      let a = first-zero (first (number 4 2 2 2 .check (h .front .version)) (first (maybe 2 0 1 .check (h .front .compression)) (originator .check (h .front .originator)))) _ front-legal .0 in
-      let b = first-zero (number 4 2 2 2 .check (h .front .version)) _ a .1 in
-      let c : originator .check (h .front .originator) ≡ 0 = first-zero (maybe 2 0 1 .check (h .front .compression)) (originator .check (h .front .originator)) b .1 in
-      there (h .front .originator .present) (h .front .originator .address) e c
-    where
-      there : (b : Bool) (y : DeclaredAddress) → b ≡ true → present noAddress address b .check y ≡ 0 → address .check y ≡ 0
-      there b y e h = rw e at h
+  from-legal = front-originator (h .front) front-legal
 
   module _ (e : h .front .recipients .present ≡ true) where
     list-legal : addresses 15 .check (h .front .recipients .addresses) ≡ 0

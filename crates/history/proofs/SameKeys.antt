@@ -15,7 +15,7 @@ use Rattle.codec.specs.Lists.{some as nonEmpty, cells}
 use Rattle.codec.proofs.Lawful.{same-check}
 use Rattle.codec.proofs.Sequences.{first-zero}
 use Rattle.codec.proofs.ListLaws.{fine-legal}
-use Rattle.codec.proofs.Agrees.{Agrees, exact-agrees, number-agrees, characters-agrees, thenBy-agrees, and-agrees, present-agrees, optional-agrees, shaped-agrees, tested-agrees, cells-agrees}
+use Rattle.codec.proofs.Agrees.{Agrees}
 use Rattle.optional.specs.Optionals.{optionalNumber}
 use Rattle.optional.specs.declared.OptionalNumber.{OptionalNumber}
 use Rattle.text.specs.Texts.{text, noText}
@@ -25,6 +25,7 @@ use Rattle.header.specs.Same.{sameNumber, sameText, sameOptionalText, sameAddre
 use Rattle.header.specs.declared.Address.{Address as DeclaredAddress}
 use Rattle.header.specs.declared.Stamp.{Stamp}
 use Rattle.header.proofs.Lawful.{address-lawful, stamp-lawful}
+use Rattle.header.proofs.Same.{address-agrees, stamp-agrees}
 use Rattle.order.specs.Values.{urn, name, addressOf, keyOf, optionOf}
 use Rattle.order.specs.declared.Key.{Key as DeclaredKey}
 use Rattle.table.specs.WellFormed.{keyFault}
@@ -35,32 +36,6 @@ use Rattle.history.specs.SameTable.{sameKey}
 pub and-same : (a b c d : Bool) → a ≡ b → (a ≡ true → c ≡ d) → a && c ≡ b && d
 and-same true b c d e h = rw (← e) (h refl)
 and-same false b c d e h = rw (← e)
-
--- ---- the same: equal once the unused cells are 0
-
-may : (w lo hi : ℕ) → Agrees (maybe w lo hi) sameNumber
-unfolding optionalNumber sameNumber
-may w lo hi = shaped-agrees _ _ (optional-agrees 0 (number-agrees w lo hi 3)) (λ x. refl)
-
-text-agrees : (n : ℕ) → Agrees (text n) sameText
-unfolding text sameText tested characters
-text-agrees n = shaped-agrees _ _ (cells-agrees 0 64 n 4 (tested-agrees nonEmpty 4 (characters-agrees n)) (λ cs. refl)) (λ x. refl)
-
-unit-name-agrees : (b : Bool) → Agrees (unitName b) sameOptionalText
-unfolding unitName sameOptionalText tested flag
-unit-name-agrees b = shaped-agrees _ _ (present-agrees noText (must b 6) (λ x. refl) (text-agrees 64)) (λ x. refl)
-
-address-agrees : Agrees address sameAddress
-unfolding address sameAddress unitName viewed _thenBy_ tested
-address-agrees = shaped-agrees _ _ (thenBy-agrees (may 24 0 16777215) (λ u. unit-name-agrees (not (u .present))) (λ u v y. refl)) (λ x. refl)
-
-dtg-agrees : Agrees dtg _≡_
-unfolding dtg date time viewed _thenBy_ number
-dtg-agrees = exact-agrees (λ x. refl)
-
-stamp-agrees : Agrees stamp sameStamp
-unfolding stamp sameStamp
-stamp-agrees = shaped-agrees _ _ (and-agrees dtg-agrees (may 12 0 4095)) (λ x. refl)
 
 -- ---- the same check
 

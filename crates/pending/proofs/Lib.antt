@@ -1,5 +1,5 @@
 mod Alike
-mod Legal
+pub mod Legal
 mod Told
 mod Building
 mod Marks

@@ -9,7 +9,7 @@ ghost use Rattle.header.specs.Table.{address, addresses};
 ghost use Rattle.header.specs.Rules.{all};
 ghost use Rattle.order.specs.Values.{addressOf, byAddress};
 ghost use Rattle.order.specs.Keyed.{put, sort};
-ghost use Rattle.order.specs.Requests.{answeredBy, opens, write, blank};
+ghost use Rattle.order.specs.Requests.{opens, write, blank};
 ghost use Rattle.order.specs.Requests as requests;
 ghost use Rattle.table.specs.Rows.{askOf, codeOf, markOf, recipientOf, usedRecipients};
 ghost use Rattle.table.specs.WellFormed.{recipientFine};
@@ -19,6 +19,10 @@ use header::Requests;
 use order::Key;
 use table::Recipient;
 use table::Row;
+use table::codes::answers_acknowledge;
+use table::codes::answers_machine;
+use table::codes::answers_reply;
+use table::codes::any_of;
 use table::rows::find_recipient;
 use table::rows::insert_recipient;
 use table::rows::replace_recipient;
@@ -72,40 +76,6 @@ pub fn new_row(key: Key, asked: Requests, to: Addresses) -> Row
     row
 }
 
-// Whether a code answers a machine request, an operator acknowledge or an operator reply.
-fn answers_machine(code: u32) -> bool
-    ensures { λ r. ⌜ r ≡ answeredBy code .machine ⌝ }
-{
-    if code == 1 {
-        return true;
-    }
-    code == 2
-}
-
-fn answers_acknowledge(code: u32) -> bool
-    ensures { λ r. ⌜ r ≡ answeredBy code .acknowledge ⌝ }
-{
-    if code == 3 {
-        return true;
-    }
-    code == 2
-}
-
-fn answers_reply(code: u32) -> bool
-    ensures { λ r. ⌜ r ≡ answeredBy code .reply ⌝ }
-{
-    if code == 4 {
-        return true;
-    }
-    if code == 5 {
-        return true;
-    }
-    if code == 6 {
-        return true;
-    }
-    code == 2
-}
-
 // Whether a request is asked, answered by the code and still without one.
 fn is_open(asked: bool, answers: bool, old: u32) -> bool
     ensures { λ r. ⌜ r ≡ opens asked answers (codeOf old) ⌝ }
@@ -128,19 +98,6 @@ fn code_after(opened: bool, code: u32, old: u32) -> u32
         return code;
     }
     old
-}
-
-// Whether one of three is set.
-fn any_of(a: bool, b: bool, c: bool) -> bool
-    ensures { λ r. ⌜ r ≡ a || b || c ⌝ }
-{
-    if a {
-        return true;
-    }
-    if b {
-        return true;
-    }
-    c
 }
 
 // A recipient's codes behind a receipt, and whether there was an open request.

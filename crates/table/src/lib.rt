@@ -3,6 +3,7 @@ use header::Address;
 use header::Requests;
 use order::Key;
 
+pub mod codes;
 pub mod rows;
 pub mod well;
 pub mod zero;

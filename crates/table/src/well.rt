@@ -15,6 +15,12 @@ ghost use Rattle.table.specs.WellFormed.{keyFault, fits, unanswered, inc
 use crate::Recipient;
 use crate::Row;
 use crate::Table;
+use crate::codes::all_of;
+use crate::codes::answers_acknowledge;
+use crate::codes::answers_machine;
+use crate::codes::answers_reply;
+use crate::codes::any_of;
+use crate::codes::code_fits;
 use checker::address::check_address;
 use checker::dtg::check_stamp;
 use codec::Check;
@@ -54,86 +60,27 @@ fn is_less(c: Comparison) -> bool
     }
 }
 
-// 1 answers a machine acknowledge request, and so does 2, which answers every request.
-fn machine_fits(asked: bool, code: u32) -> bool
-    ensures { λ r. ⌜ r ≡ fits asked (λ c. answeredBy c .machine) code ⌝ }
-{
-    if code == 0 {
-        return true;
-    }
-    if asked {
-        if code == 1 {
-            return true;
-        }
-        return code == 2;
-    }
-    false
-}
-
-// 3 answers an operator acknowledge request.
-fn acknowledge_fits(asked: bool, code: u32) -> bool
-    ensures { λ r. ⌜ r ≡ fits asked (λ c. answeredBy c .acknowledge) code ⌝ }
-{
-    if code == 0 {
-        return true;
-    }
-    if asked {
-        if code == 3 {
-            return true;
-        }
-        return code == 2;
-    }
-    false
-}
-
-// 4, 5 and 6 answer an operator reply request.
-fn reply_fits(asked: bool, code: u32) -> bool
-    ensures { λ r. ⌜ r ≡ fits asked (λ c. answeredBy c .reply) code ⌝ }
-{
-    if code == 0 {
-        return true;
-    }
-    if asked {
-        if code == 4 {
-            return true;
-        }
-        if code == 5 {
-            return true;
-        }
-        if code == 6 {
-            return true;
-        }
-        return code == 2;
-    }
-    false
-}
-
 // Each code is at an asked request that it answers.
 fn codes_fit(asked: Requests, r: Recipient) -> bool
     ensures { λ s. ⌜ s ≡ fits (asked .machine) (λ c. answeredBy c .machine) (r .machine) && fits (asked .acknowledge) (λ c. answeredBy c .acknowledge) (r .acknowledge) && fits (asked .reply) (λ c. answeredBy c .reply) (r .reply) ⌝ }
 {
-    if !machine_fits(asked.machine, r.machine) {
-        return false;
-    }
-    if !acknowledge_fits(asked.acknowledge, r.acknowledge) {
-        return false;
-    }
-    reply_fits(asked.reply, r.reply)
+    let machine = code_fits(asked.machine, answers_machine(r.machine), r.machine);
+    let acknowledge = code_fits(
+        asked.acknowledge,
+        answers_acknowledge(r.acknowledge),
+        r.acknowledge,
+    );
+    let reply = code_fits(asked.reply, answers_reply(r.reply), r.reply);
+    all_of(machine, acknowledge, reply)
 }
 
 fn any_two(r: Recipient) -> bool
     ensures { λ s. ⌜ s ≡ eqb (r .machine) 2 || eqb (r .acknowledge) 2 || eqb (r .reply) 2 ⌝ }
 {
-    let machine = r.machine;
-    if machine == 2 {
-        return true;
-    }
-    let acknowledge = r.acknowledge;
-    if acknowledge == 2 {
-        return true;
-    }
-    let reply = r.reply;
-    reply == 2
+    let machine = r.machine == 2;
+    let acknowledge = r.acknowledge == 2;
+    let reply = r.reply == 2;
+    any_of(machine, acknowledge, reply)
 }
 
 fn is_open(asked: bool, code: u32) -> bool
@@ -149,13 +96,10 @@ fn is_open(asked: bool, code: u32) -> bool
 fn any_open(asked: Requests, r: Recipient) -> bool
     ensures { λ s. ⌜ s ≡ unanswered (asked .machine) (r .machine) || unanswered (asked .acknowledge) (r .acknowledge) || unanswered (asked .reply) (r .reply) ⌝ }
 {
-    if is_open(asked.machine, r.machine) {
-        return true;
-    }
-    if is_open(asked.acknowledge, r.acknowledge) {
-        return true;
-    }
-    is_open(asked.reply, r.reply)
+    let machine = is_open(asked.machine, r.machine);
+    let acknowledge = is_open(asked.acknowledge, r.acknowledge);
+    let reply = is_open(asked.reply, r.reply);
+    any_of(machine, acknowledge, reply)
 }
 
 // 2 settles every request at once: beside it none is open.
@@ -224,15 +168,7 @@ fn recipients_in_order(r: Row) -> bool
 fn any_asked(a: Requests) -> bool
     ensures { λ r. ⌜ r ≡ a .machine || a .acknowledge || a .reply ⌝ }
 {
-    let machine = a.machine;
-    if machine {
-        return true;
-    }
-    let acknowledge = a.acknowledge;
-    if acknowledge {
-        return true;
-    }
-    a.reply
+    any_of(a.machine, a.acknowledge, a.reply)
 }
 
 pub fn row_fine(r: Row) -> bool

@@ -1,6 +1,6 @@
--- `pending::row::any_of` meets its contract. Assumes nothing.
-use Rattle.pending.proofs.row.any_of.Statement.{statement}
-use Rattle.pending.proofs.row.any_of.Tie as tie
+-- `table::codes::any_of` meets its contract. Assumes nothing.
+use Rattle.table.proofs.codes.any_of.Statement.{statement}
+use Rattle.table.proofs.codes.any_of.Tie as tie
 
 returns : tie.Need-returns
 returns c = rw (c .if1 .taken)
