@@ -1,0 +1,11 @@
+-- `gateway::pruvelaccio_post_value` meets its contract. Assumes nothing.
+use borrow.Author.Needs.{needs}
+use Rattle.gateway.proofs.Numbered.{numbered}
+use Rattle.gateway.proofs.pruvelaccio_post_value.Statement.{statement}
+use Rattle.gateway.proofs.pruvelaccio_post_value.Tie as tie
+
+returns : tie.Need-returns
+returns c = numbered _ _ (c .of-call .ensures) (c .before .post .ensures)
+
+pub pruvelaccio-post-value-spec : {M : Type 1} → statement M
+pruvelaccio-post-value-spec = tie.close (tie.spec (λ c κs. search needs) (λ c κs. search needs) returns)

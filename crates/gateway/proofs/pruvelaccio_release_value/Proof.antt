@@ -1,0 +1,11 @@
+-- `gateway::pruvelaccio_release_value` meets its contract. Assumes nothing.
+use borrow.Author.Needs.{needs}
+use Rattle.gateway.proofs.Numbered.{numbered}
+use Rattle.gateway.proofs.pruvelaccio_release_value.Statement.{statement}
+use Rattle.gateway.proofs.pruvelaccio_release_value.Tie as tie
+
+returns : tie.Need-returns
+returns c = numbered _ _ (c .of-call .ensures) (c .before .release .ensures)
+
+pub pruvelaccio-release-value-spec : {M : Type 1} → statement M
+pruvelaccio-release-value-spec = tie.close (tie.spec (λ c κs. search needs) (λ c κs. search needs) returns)

@@ -1,0 +1,127 @@
+// The calls for hosts in C and Rust: each is one call of the gateway, its structs by value, its octets
+// lent, its answer in plain numbers.
+ghost use mathlib.Core.Path.{_≡_};
+ghost use mathlib.Core.List.{[]};
+ghost use Prim.Native.Nat.{_-_};
+ghost use lib.ListN.{length, drop};
+ghost use Rattle.reader.specs.Reading.{reading, userData};
+ghost use Rattle.reader.specs.Told.{toTell};
+ghost use Rattle.writer.specs.Writing as writer;
+ghost use Rattle.table.specs.Rows.{see};
+ghost use Rattle.table.specs.Zero.{noTable};
+ghost use Rattle.pending.specs.Arguments.{posting, receiving, releasing};
+ghost use Rattle.pending.specs.Calls.{Did};
+ghost use Rattle.listing.specs.Listing as listing;
+ghost use Rattle.gateway.specs.Numbers.{readNumbers, writeNumbers, listNumbers};
+use bits::OctetSize;
+use header::Header;
+use order::Key;
+use table::Table;
+
+pub mod numbers;
+
+// A reading: number 0, the header's octets and the record; or a refusal's number and place, length 0
+// and the zero record.
+#[repr(C)]
+pub struct ReadAnswer {
+    pub number: u32,
+    pub place: usize,
+    pub length: usize,
+    pub header: Header,
+}
+
+// The check, writing and the listing: number 0 and a size in octets; or a refusal's number and place,
+// and size 0.
+#[repr(C)]
+pub struct SizeAnswer {
+    pub number: u32,
+    pub place: usize,
+    pub length: usize,
+}
+
+// Posting, receipt and release: number 0 or the refusal's, the place, which is always 0, and the table
+// afterwards; refused, the table as it came.
+#[repr(C)]
+pub struct TableAnswer {
+    pub number: u32,
+    pub place: usize,
+    pub table: Table,
+}
+
+#[no_mangle]
+pub extern "C" fn pruvelaccio_read_value(datagram: &[u8]) -> ReadAnswer
+    ensures { λ r. ⌜ r ≡ readNumbers (toTell (reading (now (datagram .entry)))) ⌝ }
+{
+    numbers::of_reading(reader::read(datagram))
+}
+
+// Where the user data starts: everything from there on follows the header. A refused datagram has none,
+// and the start is its end.
+#[no_mangle]
+pub extern "C" fn pruvelaccio_data_start(datagram: &[u8]) -> usize
+    ensures { λ r. ⌜ (drop r (now (datagram .entry)) ≡ userData (now (datagram .entry))) × (r ≡ length (now (datagram .entry)) - length (userData (now (datagram .entry)))) ⌝ }
+{
+    let data = reader::user_data(datagram);
+    datagram.len() - data.len()
+}
+
+#[no_mangle]
+pub extern "C" fn pruvelaccio_check_value(h: Header, count: usize) -> SizeAnswer
+    ensures { λ r. ⌜ r ≡ writeNumbers (writer.checking h count) ⌝ }
+{
+    numbers::of_writing(writer::check(h, OctetSize(count)))
+}
+
+#[no_mangle]
+pub extern "C" fn pruvelaccio_write_value(h: Header, count: usize, out: &mut [u8]) -> SizeAnswer
+    ensures { λ r. ⌜ (r ≡ writeNumbers (writer.writing h count (length (now (out .entry))))) × (now (out .exit) ≡ writer.outputAfter h (writer.writing h count (length (now (out .entry)))) (now (out .entry))) ⌝ }
+{
+    let written = writer::write(h, OctetSize(count), out);
+    numbers::of_writing(written)
+}
+
+#[no_mangle]
+pub extern "C" fn pruvelaccio_empty_value() -> Table
+    ensures { λ r. ⌜ (r ≡ noTable) × (see r ≡ []) × (r .count ≡ 0) ⌝ }
+{
+    table::zero::empty()
+}
+
+#[no_mangle]
+pub extern "C" fn pruvelaccio_post_value(
+    t: Table,
+    h: Header,
+    number: u32,
+    count: usize,
+) -> TableAnswer
+    ensures { λ r. ⌜ Did (posting h number count) t (r .number) (r .table) × (r .place ≡ 0) ⌝ }
+{
+    numbers::of_call(pending::post(t, h, number, OctetSize(count)))
+}
+
+#[no_mangle]
+pub extern "C" fn pruvelaccio_receipt_value(
+    t: Table,
+    h: Header,
+    number: u32,
+    count: usize,
+) -> TableAnswer
+    ensures { λ r. ⌜ Did (receiving h number count) t (r .number) (r .table) × (r .place ≡ 0) ⌝ }
+{
+    numbers::of_call(pending::receipt(t, h, number, OctetSize(count)))
+}
+
+#[no_mangle]
+pub extern "C" fn pruvelaccio_release_value(t: Table, key: Key) -> TableAnswer
+    ensures { λ r. ⌜ Did (releasing key) t (r .number) (r .table) × (r .place ≡ 0) ⌝ }
+{
+    numbers::of_call(pending::release(t, key))
+}
+
+#[no_mangle]
+pub extern "C" fn pruvelaccio_list_row_value(t: Table, number: u32, out: &mut [u8]) -> SizeAnswer
+    ensures { λ r. ⌜ (r ≡ listNumbers (listing.listing t number (length (now (out .entry))))) × (now (out .exit) ≡ listing.outputAfter (see t) number (listing.listing t number (length (now (out .entry)))) (now (out .entry))) ⌝ }
+{
+    let listed = listing::list_row(t, number, out);
+    numbers::of_listing(listed)
+}
