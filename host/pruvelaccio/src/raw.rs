@@ -1,0 +1,60 @@
+//! The exported functions as the static library has them: structs by value, a slice as a pointer and a length.
+
+use crate::record::{Header, Key, Table};
+
+#[repr(C)]
+#[derive(Clone, Copy)]
+pub struct ReadAnswer {
+    pub number: u32,
+    pub place: usize,
+    pub length: usize,
+    pub header: Header,
+}
+
+#[repr(C)]
+#[derive(Clone, Copy)]
+pub struct SizeAnswer {
+    pub number: u32,
+    pub place: usize,
+    pub length: usize,
+}
+
+#[repr(C)]
+#[derive(Clone, Copy)]
+pub struct TableAnswer {
+    pub number: u32,
+    pub place: usize,
+    pub table: Table,
+}
+
+extern "C" {
+    pub fn pruvelaccio_read_value(datagram: *const u8, length: usize) -> ReadAnswer;
+    pub fn pruvelaccio_data_start(datagram: *const u8, length: usize) -> usize;
+    pub fn pruvelaccio_check_value(header: Header, count: usize) -> SizeAnswer;
+    pub fn pruvelaccio_write_value(
+        header: Header,
+        count: usize,
+        out: *mut u8,
+        room: usize,
+    ) -> SizeAnswer;
+    pub fn pruvelaccio_empty_value() -> Table;
+    pub fn pruvelaccio_post_value(
+        table: Table,
+        header: Header,
+        number: u32,
+        count: usize,
+    ) -> TableAnswer;
+    pub fn pruvelaccio_receipt_value(
+        table: Table,
+        header: Header,
+        number: u32,
+        count: usize,
+    ) -> TableAnswer;
+    pub fn pruvelaccio_release_value(table: Table, key: Key) -> TableAnswer;
+    pub fn pruvelaccio_list_row_value(
+        table: Table,
+        number: u32,
+        out: *mut u8,
+        room: usize,
+    ) -> SizeAnswer;
+}

@@ -1,0 +1,664 @@
+/*
+ * The proved gateway for C and C++: reading and writing the application header of MIL-STD-2045-47001C, and
+ * the table of messages that still owe answers. Link libgateway.a (`rt staticlib gateway`), on x86-64 with
+ * the System V calling convention.
+ *
+ * Every call takes any input. Its answer has number 0, done, or the number of a refusal with its bit place.
+ * A refusal stores nothing through any pointer.
+ *
+ * The host sees to this:
+ * - Every bool holds 0 or 1. A struct whose octets come from outside goes through pruvelaccio_load_...
+ * - A pointer reaches as many octets as the length beside it says. NULL is fine with length 0. A pointer to
+ *   a size that the host does not want may be NULL. No other pointer may.
+ * - The stack has room. The structs go to the library by value: a receipt, the deepest call, takes 350 KB, so
+ *   a thread wants 512 KB.
+ * - One table is changed by one thread at a time. The library keeps nothing between calls.
+ */
+#ifndef PRUVELACCIO_H
+#define PRUVELACCIO_H
+
+#include <stdbool.h>
+#include <stddef.h>
+#include <stdint.h>
+#include <string.h>
+
+#ifdef __cplusplus
+#define PRUVELACCIO_ASSERT(holds, words) static_assert(holds, words)
+extern "C" {
+#else
+#define PRUVELACCIO_ASSERT(holds, words) _Static_assert(holds, words)
+#endif
+
+/* Octets that no header, no header with its data, and no row of the listing exceeds. */
+#define PRUVELACCIO_HEADER_OCTETS 8192
+#define PRUVELACCIO_DATAGRAM_OCTETS 65507
+#define PRUVELACCIO_ROW_OCTETS 4096
+
+#define PRUVELACCIO_CHARACTERS 64
+#define PRUVELACCIO_ADDRESSEES 16
+#define PRUVELACCIO_REFERENCES 4
+#define PRUVELACCIO_BLOCKS 16
+#define PRUVELACCIO_ROWS 32
+
+/*
+ * The record of a header. Numbers are 32 bits wide so that a record can hold a value that does not fit its
+ * field: finding that out is the writer's task. What is not present, or lies behind a count, is an unused
+ * cell and carries no meaning.
+ */
+
+typedef struct pruvelaccio_optional_number {
+    bool present;
+    uint32_t value;
+} pruvelaccio_optional_number;
+
+typedef struct pruvelaccio_text {
+    uint8_t chars[PRUVELACCIO_CHARACTERS];
+    uint32_t len;
+} pruvelaccio_text;
+
+typedef struct pruvelaccio_optional_text {
+    bool present;
+    pruvelaccio_text text;
+} pruvelaccio_optional_text;
+
+/* A URN or a unit name, exactly one of them. */
+typedef struct pruvelaccio_address {
+    pruvelaccio_optional_number urn;
+    pruvelaccio_optional_text name;
+} pruvelaccio_address;
+
+typedef struct pruvelaccio_optional_address {
+    bool present;
+    pruvelaccio_address address;
+} pruvelaccio_optional_address;
+
+typedef struct pruvelaccio_addresses {
+    pruvelaccio_address list[PRUVELACCIO_ADDRESSEES];
+    uint32_t count;
+} pruvelaccio_addresses;
+
+typedef struct pruvelaccio_optional_addresses {
+    bool present;
+    pruvelaccio_addresses addresses;
+} pruvelaccio_optional_addresses;
+
+/* The fields up to the end of G3. */
+typedef struct pruvelaccio_front {
+    uint32_t version;
+    pruvelaccio_optional_number compression;
+    pruvelaccio_optional_address originator;    /* G1 */
+    pruvelaccio_optional_addresses recipients;  /* G2 */
+    pruvelaccio_optional_addresses information; /* G3; G2 and G3 hold at most 16 together */
+} pruvelaccio_front;
+
+typedef struct pruvelaccio_date {
+    uint32_t year;
+    uint32_t month;
+    uint32_t day;
+} pruvelaccio_date;
+
+typedef struct pruvelaccio_time {
+    uint32_t hour;
+    uint32_t minute;
+    uint32_t second;
+} pruvelaccio_time;
+
+typedef struct pruvelaccio_dtg {
+    pruvelaccio_date date;
+    pruvelaccio_time time;
+} pruvelaccio_dtg;
+
+typedef struct pruvelaccio_optional_dtg {
+    bool present;
+    pruvelaccio_dtg dtg;
+} pruvelaccio_optional_dtg;
+
+/* A DTG with its extension. */
+typedef struct pruvelaccio_stamp {
+    pruvelaccio_dtg dtg;
+    pruvelaccio_optional_number extension;
+} pruvelaccio_stamp;
+
+typedef struct pruvelaccio_optional_stamp {
+    bool present;
+    pruvelaccio_stamp stamp;
+} pruvelaccio_optional_stamp;
+
+/* G4: functional area designator, message number and subtype. */
+typedef struct pruvelaccio_identity {
+    uint32_t fad;
+    uint32_t number;
+    pruvelaccio_optional_number subtype;
+} pruvelaccio_identity;
+
+typedef struct pruvelaccio_optional_identity {
+    bool present;
+    pruvelaccio_identity identity;
+} pruvelaccio_optional_identity;
+
+/* User message format, message standard version, G4, file name. */
+typedef struct pruvelaccio_format {
+    uint32_t umf;
+    pruvelaccio_optional_number version;
+    pruvelaccio_optional_identity identity;
+    pruvelaccio_optional_text file;
+} pruvelaccio_format;
+
+typedef struct pruvelaccio_codes {
+    uint32_t operation;
+    uint32_t retransmit;
+    uint32_t precedence;
+    uint32_t classification;
+} pruvelaccio_codes;
+
+/* Message size, the four codes, control and release marking. */
+typedef struct pruvelaccio_handling {
+    pruvelaccio_optional_number size;
+    pruvelaccio_codes codes;
+    pruvelaccio_optional_text marking;
+} pruvelaccio_handling;
+
+/* G7: the three answers that a message can ask for. */
+typedef struct pruvelaccio_requests {
+    bool machine;
+    bool acknowledge;
+    bool reply;
+} pruvelaccio_requests;
+
+typedef struct pruvelaccio_optional_requests {
+    bool present;
+    pruvelaccio_requests requests;
+} pruvelaccio_optional_requests;
+
+/* G5 originator's DTG, G6 perishability DTG, G7 requests. */
+typedef struct pruvelaccio_times {
+    pruvelaccio_optional_stamp origin;
+    pruvelaccio_optional_dtg perish;
+    pruvelaccio_optional_requests requests;
+} pruvelaccio_times;
+
+/* Receipt/compliance with its CANTCO and CANTPRO reasons. */
+typedef struct pruvelaccio_compliance {
+    uint32_t code;
+    pruvelaccio_optional_number cantco;
+    pruvelaccio_optional_number cantpro;
+} pruvelaccio_compliance;
+
+/* G8: the DTG of the message answered, the answer, and its amplification. */
+typedef struct pruvelaccio_response {
+    pruvelaccio_stamp stamp;
+    pruvelaccio_compliance compliance;
+    pruvelaccio_optional_text amplification;
+} pruvelaccio_response;
+
+typedef struct pruvelaccio_optional_response {
+    bool present;
+    pruvelaccio_response response;
+} pruvelaccio_optional_response;
+
+/* An entry of G9: a message referred to. */
+typedef struct pruvelaccio_reference {
+    pruvelaccio_address address;
+    pruvelaccio_stamp stamp;
+} pruvelaccio_reference;
+
+typedef struct pruvelaccio_references {
+    pruvelaccio_reference list[PRUVELACCIO_REFERENCES];
+    uint32_t count;
+} pruvelaccio_references;
+
+typedef struct pruvelaccio_optional_references {
+    bool present;
+    pruvelaccio_references references;
+} pruvelaccio_optional_references;
+
+/* A message block. The presence bit of G10 has to be 0 and has no cell. */
+typedef struct pruvelaccio_block {
+    pruvelaccio_format format;
+    pruvelaccio_handling handling;
+    pruvelaccio_times times;
+    pruvelaccio_optional_response response;     /* G8 */
+    pruvelaccio_optional_references references; /* G9 */
+} pruvelaccio_block;
+
+typedef struct pruvelaccio_blocks {
+    pruvelaccio_block list[PRUVELACCIO_BLOCKS];
+    uint32_t count;
+} pruvelaccio_blocks;
+
+/* Of the header size a record holds the presence only: its number is the header's own octets. */
+typedef struct pruvelaccio_header {
+    pruvelaccio_front front;
+    bool sized;
+    pruvelaccio_blocks blocks;
+} pruvelaccio_header;
+
+/*
+ * The table of pending messages.
+ */
+
+/* What names a message: its originator's address, its DTG and extension. */
+typedef struct pruvelaccio_key {
+    pruvelaccio_address address;
+    pruvelaccio_stamp stamp;
+} pruvelaccio_key;
+
+/* A recipient of a row, with the code that settled each request; 0 where there is none. */
+typedef struct pruvelaccio_recipient {
+    pruvelaccio_address address;
+    uint32_t machine;
+    uint32_t acknowledge;
+    uint32_t reply;
+} pruvelaccio_recipient;
+
+/* A message that was posted. */
+typedef struct pruvelaccio_row {
+    pruvelaccio_key key;
+    pruvelaccio_requests asked;
+    pruvelaccio_recipient recipients[PRUVELACCIO_ADDRESSEES];
+    uint32_t count;
+} pruvelaccio_row;
+
+typedef struct pruvelaccio_table {
+    pruvelaccio_row rows[PRUVELACCIO_ROWS];
+    uint32_t count;
+} pruvelaccio_table;
+
+/* The library was compiled with these sizes; a compiler that lays the structs out otherwise stops here. */
+PRUVELACCIO_ASSERT(sizeof(bool) == 1 && sizeof(size_t) == 8, "a bool is one octet and a size is eight");
+PRUVELACCIO_ASSERT(sizeof(pruvelaccio_address) == 80, "size of an address");
+PRUVELACCIO_ASSERT(sizeof(pruvelaccio_block) == 852, "size of a block");
+PRUVELACCIO_ASSERT(sizeof(pruvelaccio_header) == 16312, "size of a header");
+PRUVELACCIO_ASSERT(sizeof(pruvelaccio_key) == 112, "size of a key");
+PRUVELACCIO_ASSERT(sizeof(pruvelaccio_row) == 1592, "size of a row");
+PRUVELACCIO_ASSERT(sizeof(pruvelaccio_table) == 50948, "size of a table");
+
+/*
+ * The library's own functions: structs go by value, octets as a pointer that is never NULL and a length. The
+ * calls further down are easier to use.
+ */
+
+typedef struct pruvelaccio_read_answer {
+    uint32_t number;
+    size_t place;
+    size_t length;
+    pruvelaccio_header header;
+} pruvelaccio_read_answer;
+
+typedef struct pruvelaccio_size_answer {
+    uint32_t number;
+    size_t place;
+    size_t length;
+} pruvelaccio_size_answer;
+
+typedef struct pruvelaccio_table_answer {
+    uint32_t number;
+    size_t place;
+    pruvelaccio_table table;
+} pruvelaccio_table_answer;
+
+pruvelaccio_read_answer pruvelaccio_read_value(const uint8_t *datagram, size_t length);
+size_t pruvelaccio_data_start(const uint8_t *datagram, size_t length);
+pruvelaccio_size_answer pruvelaccio_check_value(pruvelaccio_header header, size_t count);
+pruvelaccio_size_answer pruvelaccio_write_value(pruvelaccio_header header, size_t count, uint8_t *out,
+                                                size_t room);
+pruvelaccio_table pruvelaccio_empty_value(void);
+pruvelaccio_table_answer pruvelaccio_post_value(pruvelaccio_table table, pruvelaccio_header header,
+                                                uint32_t number, size_t count);
+pruvelaccio_table_answer pruvelaccio_receipt_value(pruvelaccio_table table, pruvelaccio_header header,
+                                                   uint32_t number, size_t count);
+pruvelaccio_table_answer pruvelaccio_release_value(pruvelaccio_table table, pruvelaccio_key key);
+pruvelaccio_size_answer pruvelaccio_list_row_value(pruvelaccio_table table, uint32_t number, uint8_t *out,
+                                                   size_t room);
+
+/*
+ * The calls.
+ */
+
+/* Number 0: done. Otherwise a refusal; its place is a bit place, and 0 for all refusals but a reading's. */
+typedef struct pruvelaccio_answer {
+    uint32_t number;
+    size_t place;
+} pruvelaccio_answer;
+
+/* What an answer's number means, in words. */
+static inline const char *pruvelaccio_meaning(uint32_t number)
+{
+    switch (number) {
+    case 0: return "done";
+    case 1: return "bits run out inside a field";
+    case 2: return "the version is not legal";
+    case 3: return "a code is not legal";
+    case 4: return "a text is empty, or has a bad character or length";
+    case 5: return "too many addressees, blocks or references, or none where one is due";
+    case 6: return "both forms of an address, or neither";
+    case 7: return "the presence bit of G10 is 1";
+    case 8: return "a rule (a) to (i) is broken";
+    case 9: return "a fill bit is 1";
+    case 10: return "a size is wrong";
+    case 11: return "the output is too short";
+    case 12: return "header and data exceed 65,507 octets";
+    case 20: return "nothing is asked";
+    case 21: return "no recipient";
+    case 22: return "the key is held already";
+    case 23: return "all 32 rows are held";
+    case 24: return "not a receipt: no G8";
+    case 25: return "no originator, or not exactly one entry in G2";
+    case 26: return "no row has the key";
+    case 27: return "the answerer is no recipient of the row";
+    case 28: return "no open request that this code answers";
+    case 29: return "no such block";
+    case 30: return "the table is not well formed";
+    default: return "unknown";
+    }
+}
+
+/* The library is never handed NULL, so that its slices always have an address. */
+static inline const uint8_t *pruvelaccio_lent(const uint8_t *octets)
+{
+    static const uint8_t none = 0;
+    return octets != NULL ? octets : &none;
+}
+
+/* The answer of a call that gives a size; the size is stored where the call was done. */
+static inline pruvelaccio_answer pruvelaccio_take_size(pruvelaccio_size_answer got, size_t *size)
+{
+    pruvelaccio_answer answer = {got.number, got.place};
+    if (got.number == 0 && size != NULL) {
+        *size = got.length;
+    }
+    return answer;
+}
+
+/* The answer of a call on the table; the table is stored where the call was done. */
+static inline pruvelaccio_answer pruvelaccio_take_table(const pruvelaccio_table_answer *got,
+                                                        pruvelaccio_table *table)
+{
+    pruvelaccio_answer answer = {got->number, got->place};
+    if (got->number == 0) {
+        *table = got->table;
+    }
+    return answer;
+}
+
+/* Reads a datagram into the record; unused cells are 0. The length is the header's, fill bits included. */
+static inline pruvelaccio_answer pruvelaccio_read(const uint8_t *datagram, size_t length,
+                                                  pruvelaccio_header *header, size_t *header_length)
+{
+    const pruvelaccio_read_answer got = pruvelaccio_read_value(pruvelaccio_lent(datagram), length);
+    pruvelaccio_answer answer = {got.number, got.place};
+    if (got.number == 0) {
+        *header = got.header;
+        if (header_length != NULL) {
+            *header_length = got.length;
+        }
+    }
+    return answer;
+}
+
+/*
+ * The part of the datagram that follows the header. It refuses nothing: a datagram that reading refuses has
+ * no user data, so the length that is stored is 0.
+ */
+static inline const uint8_t *pruvelaccio_user_data(const uint8_t *datagram, size_t length,
+                                                   size_t *data_length)
+{
+    const size_t start = pruvelaccio_data_start(pruvelaccio_lent(datagram), length);
+    if (data_length != NULL) {
+        *data_length = length - start;
+    }
+    return start == 0 ? datagram : datagram + start;
+}
+
+/* Whether a record is valid with so many octets of user data; done, it tells the octets of its header. */
+static inline pruvelaccio_answer pruvelaccio_check(const pruvelaccio_header *header, size_t count,
+                                                   size_t *header_length)
+{
+    return pruvelaccio_take_size(pruvelaccio_check_value(*header, count), header_length);
+}
+
+/* Writes a record's header to the first octets of the output. No other octet of the output changes. */
+static inline pruvelaccio_answer pruvelaccio_write(const pruvelaccio_header *header, size_t count,
+                                                   uint8_t *out, size_t room, size_t *written)
+{
+    uint8_t none = 0;
+    uint8_t *lent = out != NULL ? out : &none;
+    return pruvelaccio_take_size(pruvelaccio_write_value(*header, count, lent, room), written);
+}
+
+/* Makes a table with no row. */
+static inline void pruvelaccio_empty(pruvelaccio_table *table)
+{
+    *table = pruvelaccio_empty_value();
+}
+
+/* Posts block `number` of a record, counted from 1; `count` is the datagram's octets of user data. */
+static inline pruvelaccio_answer pruvelaccio_post(pruvelaccio_table *table, const pruvelaccio_header *header,
+                                                  uint32_t number, size_t count)
+{
+    const pruvelaccio_table_answer got = pruvelaccio_post_value(*table, *header, number, count);
+    return pruvelaccio_take_table(&got, table);
+}
+
+/* Settles what block `number` of a record answers. */
+static inline pruvelaccio_answer pruvelaccio_receipt(pruvelaccio_table *table,
+                                                     const pruvelaccio_header *header, uint32_t number,
+                                                     size_t count)
+{
+    const pruvelaccio_table_answer got = pruvelaccio_receipt_value(*table, *header, number, count);
+    return pruvelaccio_take_table(&got, table);
+}
+
+/* Takes the row with a key out of the table. */
+static inline pruvelaccio_answer pruvelaccio_release(pruvelaccio_table *table, const pruvelaccio_key *key)
+{
+    const pruvelaccio_table_answer got = pruvelaccio_release_value(*table, *key);
+    return pruvelaccio_take_table(&got, table);
+}
+
+/*
+ * Writes a row of the listing to the first octets of the output: row 0 counts the rows, rows 1 to n follow in
+ * key order, a later number writes nothing. No other octet of the output changes.
+ */
+static inline pruvelaccio_answer pruvelaccio_list_row(const pruvelaccio_table *table, uint32_t number,
+                                                      uint8_t *out, size_t room, size_t *written)
+{
+    uint8_t none = 0;
+    uint8_t *lent = out != NULL ? out : &none;
+    return pruvelaccio_take_size(pruvelaccio_list_row_value(*table, number, lent, room), written);
+}
+
+/*
+ * Structs from octets that come from outside, as from a file or from shared memory, in the struct's own
+ * layout. A loader tests the size and that every flag is 0 or 1, those of unused cells too. If so it stores
+ * the struct and returns true; otherwise it stores nothing and returns false. What the struct says is not
+ * judged here: that is done by each call.
+ */
+
+/* How many flags a list of their offsets names. */
+#define PRUVELACCIO_FLAGS(offsets) (sizeof(offsets) / sizeof((offsets)[0]))
+
+/*
+ * Whether the flags at the given offsets hold 0 or 1 in each of `count` structs that stand one behind the
+ * other, `stride` octets apart.
+ */
+static inline bool pruvelaccio_flags_hold(const unsigned char *octets, size_t count, size_t stride,
+                                          const size_t *offsets, size_t flags)
+{
+    for (size_t i = 0; i < count * flags; i++) {
+        if (octets[i / flags * stride + offsets[i % flags]] > 1) {
+            return false;
+        }
+    }
+    return true;
+}
+
+/* Addresses that stand `stride` octets apart: in a list of their own, or at the head of each recipient. */
+static inline bool pruvelaccio_flags_of_addresses(const unsigned char *octets, size_t count, size_t stride)
+{
+    static const size_t offsets[] = {
+        offsetof(pruvelaccio_address, urn.present),
+        offsetof(pruvelaccio_address, name.present),
+    };
+    return pruvelaccio_flags_hold(octets, count, stride, offsets, PRUVELACCIO_FLAGS(offsets));
+}
+
+static inline bool pruvelaccio_flags_of_references(const unsigned char *list)
+{
+    static const size_t offsets[] = {
+        offsetof(pruvelaccio_reference, address.urn.present),
+        offsetof(pruvelaccio_reference, address.name.present),
+        offsetof(pruvelaccio_reference, stamp.extension.present),
+    };
+    return pruvelaccio_flags_hold(list, PRUVELACCIO_REFERENCES, sizeof(pruvelaccio_reference), offsets,
+                                  PRUVELACCIO_FLAGS(offsets));
+}
+
+static inline bool pruvelaccio_flags_of_block(const unsigned char *block)
+{
+    static const size_t offsets[] = {
+        offsetof(pruvelaccio_block, format.version.present),
+        offsetof(pruvelaccio_block, format.identity.present),
+        offsetof(pruvelaccio_block, format.identity.identity.subtype.present),
+        offsetof(pruvelaccio_block, format.file.present),
+        offsetof(pruvelaccio_block, handling.size.present),
+        offsetof(pruvelaccio_block, handling.marking.present),
+        offsetof(pruvelaccio_block, times.origin.present),
+        offsetof(pruvelaccio_block, times.origin.stamp.extension.present),
+        offsetof(pruvelaccio_block, times.perish.present),
+        offsetof(pruvelaccio_block, times.requests.present),
+        offsetof(pruvelaccio_block, times.requests.requests.machine),
+        offsetof(pruvelaccio_block, times.requests.requests.acknowledge),
+        offsetof(pruvelaccio_block, times.requests.requests.reply),
+        offsetof(pruvelaccio_block, response.present),
+        offsetof(pruvelaccio_block, response.response.stamp.extension.present),
+        offsetof(pruvelaccio_block, response.response.compliance.cantco.present),
+        offsetof(pruvelaccio_block, response.response.compliance.cantpro.present),
+        offsetof(pruvelaccio_block, response.response.amplification.present),
+        offsetof(pruvelaccio_block, references.present),
+    };
+    return pruvelaccio_flags_hold(block, 1, 0, offsets, PRUVELACCIO_FLAGS(offsets)) &&
+           pruvelaccio_flags_of_references(block + offsetof(pruvelaccio_block, references.references.list));
+}
+
+static inline bool pruvelaccio_flags_of_front(const unsigned char *front)
+{
+    static const size_t offsets[] = {
+        offsetof(pruvelaccio_front, compression.present),
+        offsetof(pruvelaccio_front, originator.present),
+        offsetof(pruvelaccio_front, originator.address.urn.present),
+        offsetof(pruvelaccio_front, originator.address.name.present),
+        offsetof(pruvelaccio_front, recipients.present),
+        offsetof(pruvelaccio_front, information.present),
+    };
+    const size_t recipients = offsetof(pruvelaccio_front, recipients.addresses.list);
+    const size_t information = offsetof(pruvelaccio_front, information.addresses.list);
+    const size_t stride = sizeof(pruvelaccio_address);
+    return pruvelaccio_flags_hold(front, 1, 0, offsets, PRUVELACCIO_FLAGS(offsets)) &&
+           pruvelaccio_flags_of_addresses(front + recipients, PRUVELACCIO_ADDRESSEES, stride) &&
+           pruvelaccio_flags_of_addresses(front + information, PRUVELACCIO_ADDRESSEES, stride);
+}
+
+static inline bool pruvelaccio_flags_of_header(const unsigned char *header)
+{
+    const unsigned char *blocks = header + offsetof(pruvelaccio_header, blocks.list);
+    bool hold = pruvelaccio_flags_of_front(header + offsetof(pruvelaccio_header, front)) &&
+                header[offsetof(pruvelaccio_header, sized)] <= 1;
+    for (size_t i = 0; hold && i < PRUVELACCIO_BLOCKS; i++) {
+        hold = pruvelaccio_flags_of_block(blocks + i * sizeof(pruvelaccio_block));
+    }
+    return hold;
+}
+
+static inline bool pruvelaccio_flags_of_key(const unsigned char *key)
+{
+    return pruvelaccio_flags_of_addresses(key + offsetof(pruvelaccio_key, address), 1, 0) &&
+           key[offsetof(pruvelaccio_key, stamp.extension.present)] <= 1;
+}
+
+static inline bool pruvelaccio_flags_of_row(const unsigned char *row)
+{
+    static const size_t offsets[] = {
+        offsetof(pruvelaccio_row, asked.machine),
+        offsetof(pruvelaccio_row, asked.acknowledge),
+        offsetof(pruvelaccio_row, asked.reply),
+    };
+    const size_t addresses = offsetof(pruvelaccio_row, recipients) + offsetof(pruvelaccio_recipient, address);
+    return pruvelaccio_flags_of_key(row + offsetof(pruvelaccio_row, key)) &&
+           pruvelaccio_flags_hold(row, 1, 0, offsets, PRUVELACCIO_FLAGS(offsets)) &&
+           pruvelaccio_flags_of_addresses(row + addresses, PRUVELACCIO_ADDRESSEES,
+                                          sizeof(pruvelaccio_recipient));
+}
+
+static inline bool pruvelaccio_flags_of_table(const unsigned char *table)
+{
+    const unsigned char *rows = table + offsetof(pruvelaccio_table, rows);
+    bool hold = true;
+    for (size_t i = 0; hold && i < PRUVELACCIO_ROWS; i++) {
+        hold = pruvelaccio_flags_of_row(rows + i * sizeof(pruvelaccio_row));
+    }
+    return hold;
+}
+
+/*
+ * Each octet is fetched once, and what is tested is what is stored: memory that another process changes
+ * meanwhile cannot slip a bad flag in between the two.
+ */
+static inline void pruvelaccio_fetch(unsigned char *copy, const void *octets, size_t size)
+{
+    const volatile unsigned char *from = (const volatile unsigned char *)octets;
+    for (size_t i = 0; i < size; i++) {
+        copy[i] = from[i];
+    }
+}
+
+static inline bool pruvelaccio_load_header(pruvelaccio_header *to, const void *octets, size_t size)
+{
+    unsigned char copy[sizeof(pruvelaccio_header)];
+    if (size != sizeof(copy)) {
+        return false;
+    }
+    pruvelaccio_fetch(copy, octets, sizeof(copy));
+    if (!pruvelaccio_flags_of_header(copy)) {
+        return false;
+    }
+    memcpy(to, copy, sizeof(copy));
+    return true;
+}
+
+static inline bool pruvelaccio_load_table(pruvelaccio_table *to, const void *octets, size_t size)
+{
+    unsigned char copy[sizeof(pruvelaccio_table)];
+    if (size != sizeof(copy)) {
+        return false;
+    }
+    pruvelaccio_fetch(copy, octets, sizeof(copy));
+    if (!pruvelaccio_flags_of_table(copy)) {
+        return false;
+    }
+    memcpy(to, copy, sizeof(copy));
+    return true;
+}
+
+static inline bool pruvelaccio_load_key(pruvelaccio_key *to, const void *octets, size_t size)
+{
+    unsigned char copy[sizeof(pruvelaccio_key)];
+    if (size != sizeof(copy)) {
+        return false;
+    }
+    pruvelaccio_fetch(copy, octets, sizeof(copy));
+    if (!pruvelaccio_flags_of_key(copy)) {
+        return false;
+    }
+    memcpy(to, copy, sizeof(copy));
+    return true;
+}
+
+#ifdef __cplusplus
+}
+#endif
+
+#undef PRUVELACCIO_ASSERT
+#undef PRUVELACCIO_FLAGS
+
+#endif
