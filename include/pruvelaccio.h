@@ -326,28 +326,28 @@ static inline const char *pruvelaccio_meaning(uint32_t number)
 {
     switch (number) {
     case 0: return "done";
-    case 1: return "bits run out inside a field";
+    case 1: return "the bits end inside a field";
     case 2: return "the version is not legal";
-    case 3: return "a code is not legal";
-    case 4: return "a text is empty, or has a bad character or length";
-    case 5: return "too many addressees, blocks or references, or none where one is due";
-    case 6: return "both forms of an address, or neither";
+    case 3: return "another code is not legal";
+    case 4: return "a text is empty, or a character or a length of it is bad";
+    case 5: return "too many addressees, blocks or references, or none where there must be one";
+    case 6: return "an address has both forms or neither";
     case 7: return "the presence bit of G10 is 1";
-    case 8: return "a rule (a) to (i) is broken";
+    case 8: return "one of the rules (a) to (i) is broken";
     case 9: return "a fill bit is 1";
     case 10: return "a size is wrong";
-    case 11: return "the output is too short";
-    case 12: return "header and data exceed 65,507 octets";
-    case 20: return "nothing is asked";
-    case 21: return "no recipient";
-    case 22: return "the key is held already";
-    case 23: return "all 32 rows are held";
-    case 24: return "not a receipt: no G8";
-    case 25: return "no originator, or not exactly one entry in G2";
+    case 11: return "the output has too little room";
+    case 12: return "header and data together are longer than 65,507 octets";
+    case 20: return "a posting asks for nothing";
+    case 21: return "a posting has no recipient";
+    case 22: return "the table holds the key already";
+    case 23: return "the table's 32 rows are all held";
+    case 24: return "a receipt without G8";
+    case 25: return "a receipt without originator, or with G2 not of exactly one entry";
     case 26: return "no row has the key";
-    case 27: return "the answerer is no recipient of the row";
-    case 28: return "no open request that this code answers";
-    case 29: return "no such block";
+    case 27: return "the answerer is no recipient of that row";
+    case 28: return "nothing is open there that the code answers";
+    case 29: return "the record has no such block";
     case 30: return "the table is not well formed";
     default: return "unknown";
     }
