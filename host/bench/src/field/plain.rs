@@ -1,6 +1,6 @@
 //! The same fragment algorithm in Rust, every index checked, behind the same test.
 
-use crate::fits::fits;
+use super::fits::fits;
 
 #[inline(never)]
 pub fn read(s: &[u8], at: usize, w: usize) -> u32 {

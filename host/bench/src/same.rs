@@ -1,0 +1,246 @@
+//! The proved calls and the fast ones agree: number, place, record, octets, table and listing, on every input that is
+//! measured and on random ones.
+
+use crate::cells::{all_cells, used_cells};
+use crate::draft;
+use crate::fast;
+use crate::random::Random;
+use crate::samples::{self, Sample};
+use pruvelaccio::{Header, Key, Refusal, Table};
+
+const RECORDS: usize = 4000;
+const TABLES: usize = 80;
+const CALLS_EACH: usize = 60;
+
+/// Document 01's numbers of refusals.
+const NUMBERS: [u32; 23] =
+    [1, 2, 3, 4, 5, 6, 7, 8, 9, 10, 11, 12, 20, 21, 22, 23, 24, 25, 26, 27, 28, 29, 30];
+
+/// A posting or receipt with its arguments, or a release.
+pub enum Call<'a> {
+    Post(&'a Header, u32, usize),
+    Receipt(&'a Header, u32, usize),
+    Release(&'a Key),
+}
+
+impl Call<'_> {
+    pub fn proved(&self, t: &mut Table) -> Result<(), Refusal> {
+        match self {
+            Call::Post(h, number, count) => t.post(h, *number, *count),
+            Call::Receipt(h, number, count) => t.receipt(h, *number, *count),
+            Call::Release(key) => t.release(key),
+        }
+    }
+
+    pub fn fast(&self, t: &mut Table) -> Result<(), Refusal> {
+        match self {
+            Call::Post(h, number, count) => fast::post(t, h, *number, *count),
+            Call::Receipt(h, number, count) => fast::receipt(t, h, *number, *count),
+            Call::Release(key) => fast::release(t, key),
+        }
+    }
+
+    pub fn by_value(&self, t: &mut Table) -> Result<(), Refusal> {
+        match self {
+            Call::Post(h, number, count) => fast::by_value::post(t, h, *number, *count),
+            Call::Receipt(h, number, count) => fast::by_value::receipt(t, h, *number, *count),
+            Call::Release(key) => fast::by_value::release(t, key),
+        }
+    }
+}
+
+/// What was compared so far, and the refusals met. The record that the fast readings fill is used again and again,
+/// so that it always holds old cells.
+struct Compared {
+    record: Box<Header>,
+    datagrams: usize,
+    records: usize,
+    calls: usize,
+    met: Vec<u32>,
+}
+
+impl Compared {
+    fn note<T>(&mut self, answer: &Result<T, Refusal>) {
+        self.met.extend(answer.as_ref().err().map(|refusal| refusal.number));
+    }
+
+    fn reading(&mut self, datagram: &[u8]) {
+        let proved = pruvelaccio::read(datagram);
+        let fast = fast::read(datagram, &mut self.record);
+        assert_eq!(proved.as_ref().map(|r| r.length), fast.as_ref().copied());
+        if let Ok(read) = &proved {
+            assert_eq!(all_cells(&read.header), all_cells(&self.record));
+        }
+        let start = fast.unwrap_or(datagram.len());
+        assert_eq!(pruvelaccio::user_data(datagram), &datagram[start..]);
+        self.datagrams += 1;
+        self.note(&proved);
+    }
+
+    /// The check, and writing into outputs of the same length and content.
+    fn writing(&mut self, h: &Header, count: usize, room: usize) -> Result<usize, Refusal> {
+        assert_eq!(pruvelaccio::check(h, count), fast::check(h, count));
+        let (mut one, mut two) = (vec![0xa5; room], vec![0xa5; room]);
+        let written = pruvelaccio::write(h, count, &mut one);
+        assert_eq!(written, fast::write(h, count, &mut two));
+        assert_eq!(one, two);
+        self.records += 1;
+        self.note(&written);
+        written
+    }
+
+    /// A call on copies of a table: the table afterwards.
+    fn call(&mut self, t: &Table, call: &Call) -> Box<Table> {
+        let (mut one, mut two, mut three) = (Box::new(*t), Box::new(*t), Box::new(*t));
+        let answer = call.proved(&mut one);
+        assert_eq!(answer, call.fast(&mut two));
+        assert_eq!(answer, call.by_value(&mut three));
+        let after = used_cells(&one);
+        assert_eq!(after, used_cells(&two));
+        assert_eq!(after, used_cells(&three));
+        self.calls += 1;
+        self.note(&answer);
+        one
+    }
+
+    fn row(&mut self, t: &Table, number: u32, room: usize) {
+        let (mut one, mut two) = (vec![0xa5; room], vec![0xa5; room]);
+        let listed = t.list_row(number, &mut one);
+        assert_eq!(listed, fast::list_row(t, number, &mut two));
+        assert_eq!(one, two);
+        self.note(&listed);
+    }
+
+    fn listing(&mut self, t: &Table) {
+        (0..34).for_each(|number| self.row(t, number, 4096));
+    }
+}
+
+/// All headers and tables that are measured.
+fn measured(compared: &mut Compared) {
+    let mut list = vec![samples::small(), samples::typical(), samples::largest()];
+    list.extend([samples::largest_posting(), samples::named_receipt()]);
+    for count in [1, 2, 4, 8, 16] {
+        list.extend([samples::plain_blocks(count), samples::full_blocks(count)]);
+    }
+    for s in &list {
+        compared.reading(&s.datagram);
+        let written = compared.writing(&s.header, s.count, 8192);
+        assert_eq!(written, Ok(s.octets));
+    }
+    for table in [samples::almost_empty(), samples::nearly_full(), samples::full()] {
+        measured_calls(compared, &table, &list);
+        compared.listing(&table);
+    }
+}
+
+fn measured_calls(compared: &mut Compared, table: &Table, list: &[Sample]) {
+    for s in list {
+        compared.call(table, &Call::Post(&s.header, s.header.blocks.count, s.count));
+        compared.call(table, &Call::Receipt(&s.header, 1, s.count));
+    }
+    for key in [samples::first_key(), samples::middle_key()] {
+        compared.call(table, &Call::Release(&key));
+    }
+}
+
+/// The limit of 65,507 octets, which nothing random comes near.
+fn longest(compared: &mut Compared) {
+    let s = samples::typical();
+    for octets in [65_507, 65_508] {
+        let mut datagram = s.datagram.clone();
+        datagram.resize(octets, 0);
+        compared.reading(&datagram);
+        let _ = compared.writing(&s.header, octets - s.octets, 8192);
+    }
+    let _ = compared.writing(&s.header, usize::MAX, 8192);
+}
+
+/// A few bits flipped, the end cut off, or octets put behind.
+fn mutated(datagram: &[u8], random: &mut Random) -> Vec<u8> {
+    let mut octets = datagram.to_vec();
+    match random.below(4) {
+        0 => octets.truncate(random.below(datagram.len() + 1)),
+        1 => octets.resize(datagram.len() + 1 + random.below(9), 0),
+        _ => {
+            for _ in 0..1 + random.below(3) {
+                octets[random.below(datagram.len())] ^= 1 << random.below(8);
+            }
+        }
+    }
+    octets
+}
+
+/// A random record, spoiled every other time; and what it is written as, whole and mutated.
+fn random_record(compared: &mut Compared, random: &mut Random) {
+    let (mut h, count) = draft::header(random);
+    if random.once_in(2) {
+        draft::spoil(&mut h, random);
+    }
+    let room = if random.once_in(8) { random.below(64) } else { 8192 };
+    let Ok(octets) = compared.writing(&h, count, room) else { return };
+    let mut datagram = vec![0; 8192];
+    fast::write(&h, count, &mut datagram).expect("written before");
+    datagram.truncate(octets);
+    datagram.resize(octets + count, 0x5a);
+    compared.reading(&datagram);
+    (0..3).for_each(|_| compared.reading(&mutated(&datagram, random)));
+}
+
+/// One random call on a table: the table afterwards.
+fn random_call(compared: &mut Compared, t: &Table, random: &mut Random) -> Box<Table> {
+    let (mut h, count) = draft::header(random);
+    let mut key = draft::key(random);
+    if t.count > 0 && random.once_in(2) {
+        let row = &t.rows[random.below((t.count as usize).min(32))];
+        key = row.key;
+        draft::aim(&mut h, row, random);
+    }
+    if random.once_in(8) {
+        draft::spoil(&mut h, random);
+        draft::spoil_key(&mut key, random);
+    }
+    let number = if random.once_in(4) { random.below(4) as u32 } else { h.blocks.count };
+    let answers = h.blocks.list[(number as usize).clamp(1, 16) - 1].response.present;
+    let call = match random.below(8) {
+        0 => Call::Release(&key),
+        1 => Call::Post(&h, number, count),
+        2 => Call::Receipt(&h, number, count),
+        _ if answers => Call::Receipt(&h, number, count),
+        _ => Call::Post(&h, number, count),
+    };
+    compared.call(t, &call)
+}
+
+/// Random calls in turn on a table that grows, and others on spoiled copies of it.
+fn random_table(compared: &mut Compared, random: &mut Random) {
+    let mut t = Box::new(Table::empty());
+    for _ in 0..CALLS_EACH {
+        t = random_call(compared, &t, random);
+        compared.row(&t, random.below(34) as u32, random.below(400));
+        let mut spoiled = t.clone();
+        draft::spoil_table(&mut spoiled, random);
+        random_call(compared, &spoiled, random);
+        compared.row(&spoiled, random.below(4) as u32, 4096);
+    }
+    compared.listing(&t);
+}
+
+/// Asserts that all agree and that every refusal was met, and says over how many inputs.
+pub fn run() {
+    let mut random = Random(0x2045_4700_1c00_0002);
+    let record = Box::new(fast::NO_HEADER);
+    let mut compared = Compared { record, datagrams: 0, records: 0, calls: 0, met: Vec::new() };
+    measured(&mut compared);
+    longest(&mut compared);
+    (0..RECORDS).for_each(|_| random_record(&mut compared, &mut random));
+    (0..TABLES).for_each(|_| random_table(&mut compared, &mut random));
+    for number in NUMBERS {
+        assert!(compared.met.contains(&number), "refusal {number} was not met");
+    }
+    println!(
+        "proved and fast agree on {} records, {} datagrams and {} calls on tables, measured and random ones; every \
+         refusal was met",
+        compared.records, compared.datagrams, compared.calls
+    );
+}

@@ -1,0 +1,160 @@
+//! Records and datagrams laid before both programs: reading, the user data, the check and writing.
+
+use reference::Header;
+
+use crate::cells::Cells;
+use crate::convert;
+use crate::library::{self, ReadAnswer, SizeAnswer};
+use crate::records::Case;
+use crate::run::{caught, Run};
+use crate::tally::Kind;
+
+/// Octets before and behind a lent output that no call may touch.
+const GUARD: usize = 24;
+
+type Reading = Result<(Header, usize), (u32, usize)>;
+
+// ---------------------------------------------------------------------------
+// When two answers are the same
+
+pub fn same_size(call: &str, plain: Result<usize, u32>, got: SizeAnswer) -> Result<(), String> {
+    let expected = match plain {
+        Ok(length) => SizeAnswer { number: 0, place: 0, length },
+        Err(number) => SizeAnswer { number, place: 0, length: 0 },
+    };
+    if expected == got {
+        return Ok(());
+    }
+    Err(format!("{call}: the second program gives {expected:?}, the library {got:?}"))
+}
+
+pub fn same_octets(call: &str, plain: &[u8], got: &[u8]) -> Result<(), String> {
+    if plain == got {
+        return Ok(());
+    }
+    let at = plain.iter().zip(got).position(|(a, b)| a != b);
+    let texts = (hex(plain), hex(got));
+    Err(format!(
+        "{call}: octets differ from {at:?} on\nsecond program: {}\nlibrary: {}",
+        texts.0, texts.1
+    ))
+}
+
+/// The whole answer: beside a record its unused cells are 0, beside a refusal the record is zeros and the length 0.
+pub fn same_reading(plain: &Reading, got: &ReadAnswer) -> Result<(), String> {
+    let mut header = pruvelaccio::Header::ZERO;
+    let told = match plain {
+        Ok((record, length)) => {
+            convert::header(record, &mut header, 0);
+            (0, 0, *length)
+        }
+        Err((number, place)) => (*number, *place, 0),
+    };
+    let own = (got.number, got.place, got.length);
+    if told != own {
+        return Err(format!("read: the second program gives {told:?}, the library {own:?}"));
+    }
+    match header.difference(&got.header) {
+        Some(cell) => {
+            Err(format!("read: second program's cell beside the library's at header{cell}"))
+        }
+        None => Ok(()),
+    }
+}
+
+pub fn hex(octets: &[u8]) -> String {
+    octets.iter().map(|octet| format!("{octet:02X}")).collect()
+}
+
+// ---------------------------------------------------------------------------
+// Records
+
+/// The check, and writing with exact room, with one octet less and with more. Gives the header of a valid record.
+pub fn compare_record(run: &mut Run, case: &Case) -> Result<Option<Vec<u8>>, String> {
+    run.tally.records += 1;
+    caught(|| check_and_write(run, case)).map_err(|text| format!("{text}\ninput: {case:?}"))
+}
+
+fn check_and_write(run: &mut Run, case: &Case) -> Result<Option<Vec<u8>>, String> {
+    let header = run.rubbish.header(case, &mut run.random);
+    let plain = reference::check(&case.record, case.count);
+    same_size("check", plain, library::check(&header, case.count as usize)?)?;
+    run.tally.note(Kind::Check, plain.err().unwrap_or(0))?;
+    let Ok(length) = plain else {
+        // Too little room or enough: a refusal of the record comes before 11.
+        let room = if run.random.coin() { 0 } else { run.random.index(400) };
+        compare_write(run, case, &header, room)?;
+        return Ok(None);
+    };
+    compare_write(run, case, &header, length - 1)?;
+    let more = length + 1 + run.random.index(40);
+    compare_write(run, case, &header, more)?;
+    compare_write(run, case, &header, length)
+}
+
+/// Writing into room with a pattern in it and around it. Gives the octets written where there are any.
+fn compare_write(
+    run: &mut Run,
+    case: &Case,
+    header: &pruvelaccio::Header,
+    room: usize,
+) -> Result<Option<Vec<u8>>, String> {
+    let mut own = run.random.octets(GUARD + room + GUARD);
+    let mut other = own.clone();
+    let lent = GUARD..GUARD + room;
+    let plain = reference::write(&case.record, case.count, &mut other[lent.clone()]);
+    let got = library::write(header, case.count as usize, &mut own[lent])?;
+    run.tally.note(Kind::Write, plain.err().unwrap_or(0))?;
+    same_size("write", plain, got)?;
+    same_octets("write", &other, &own)?;
+    Ok(plain.ok().map(|length| own[GUARD..GUARD + length].to_vec()))
+}
+
+// ---------------------------------------------------------------------------
+// Datagrams
+
+/// Reading and the user data; what is accepted is written again and must be the datagram's own header. Gives the
+/// record that was read.
+pub fn compare_datagram(run: &mut Run, datagram: &[u8]) -> Result<Option<Header>, String> {
+    run.tally.datagrams += 1;
+    let told = |text| format!("{text}\ninput: {}", hex(datagram));
+    caught(|| read_and_write(run, datagram)).map_err(told)
+}
+
+fn read_and_write(run: &mut Run, datagram: &[u8]) -> Result<Option<Header>, String> {
+    let plain = reference::read(datagram);
+    same_reading(&plain, &library::read(datagram)?)?;
+    run.tally.note(Kind::Read, plain.as_ref().err().map_or(0, |refusal| refusal.0))?;
+    same_data(datagram)?;
+    let Ok((record, length)) = plain else { return Ok(None) };
+
+    let case = Case { record, count: (datagram.len() - length) as u64 };
+    let header = run.rubbish.header(&case, &mut run.random);
+    let written = compare_write(run, &case, &header, length)?.unwrap_or_default();
+    same_octets("written again", &datagram[..length], &written)?;
+    Ok(Some(case.record))
+}
+
+/// The same part of the same datagram: where it starts and how long it is.
+fn same_data(datagram: &[u8]) -> Result<(), String> {
+    let part = reference::user_data(datagram);
+    let expected = (part.as_ptr() as usize - datagram.as_ptr() as usize, part.len());
+    let got = library::user_data(datagram)?;
+    if expected == got {
+        return Ok(());
+    }
+    Err(format!("user data: the second program gives {expected:?}, the library {got:?}"))
+}
+
+/// There and back: a valid record is written, user data put behind it, and the same record read.
+pub fn compare_both_ways(run: &mut Run, case: &Case) -> Result<Vec<u8>, String> {
+    let header = compare_record(run, case)?;
+    let mut datagram = header.ok_or_else(|| format!("a valid record was refused: {case:?}"))?;
+    let data = run.random.octets(case.count as usize);
+    datagram.extend_from_slice(&data);
+    let read = compare_datagram(run, &datagram)?;
+    if read.as_ref() == Some(&case.record) {
+        return Ok(datagram);
+    }
+    Err(format!("a written record came back changed\ninput: {case:?}\nread: {read:?}"))
+}

@@ -1,0 +1,138 @@
+//! Lays the proved library and the program `pending_list` beside the second program, `host/reference`, on many
+//! inputs in both directions. Ends with status 1 at the first difference, or if a refusal came up too seldom.
+
+mod cells;
+mod convert;
+mod damage;
+mod datagrams;
+mod emit;
+mod headers;
+mod illformed;
+mod library;
+mod listing;
+mod pool;
+mod program;
+mod program_cases;
+mod random;
+mod records;
+mod rubbish;
+mod run;
+mod selfcheck;
+mod tables;
+mod tally;
+mod wholes;
+
+use std::process::ExitCode;
+use std::time::{Instant, SystemTime, UNIX_EPOCH};
+
+use run::Run;
+use tally::{Tally, LEAST};
+
+const FIXED_SEED: u64 = 204_547_001;
+const INPUTS: u64 = 200_000;
+
+/// Inputs of `pending_list` for each seed.
+const PROGRAMS: u64 = 250;
+
+const USAGE: &str = "usage: compare [--seed N] [--inputs N]
+  --seed N    one run with this seed, instead of a fixed one and one from the clock
+  --inputs N  records, datagrams and calls for each seed (200000)";
+
+struct Options {
+    seeds: Vec<u64>,
+    inputs: u64,
+}
+
+fn clock() -> u64 {
+    SystemTime::now().duration_since(UNIX_EPOCH).map_or(1, |time| time.as_nanos() as u64)
+}
+
+fn options() -> Option<Options> {
+    let mut options = Options { seeds: vec![FIXED_SEED, clock()], inputs: INPUTS };
+    let mut words = std::env::args().skip(1);
+    while let Some(word) = words.next() {
+        let number: u64 = words.next()?.parse().ok()?;
+        match word.as_str() {
+            "--seed" => options.seeds = vec![number],
+            "--inputs" => options.inputs = number,
+            _ => return None,
+        }
+    }
+    Some(options)
+}
+
+/// All comparisons with one seed. Gives back the counts.
+fn compare_with(seed: u64, inputs: u64, tally: Tally) -> Result<Tally, String> {
+    println!("seed {seed}: {inputs} inputs, {PROGRAMS} inputs of pending_list");
+    let mut run = Run::new(seed, tally);
+    let mut play = || {
+        for _ in 0..PROGRAMS {
+            let input = program::generated(&mut run.random);
+            program::compare(&mut run, &input, None)?;
+        }
+        run.play(inputs)
+    };
+    play().map_err(|text: String| format!("seed {seed}: {text}"))?;
+    Ok(run.tally)
+}
+
+fn compare(options: &Options) -> Result<Tally, String> {
+    if !program::path().is_file() {
+        let path = program::path();
+        return Err(format!(
+            "{} is missing: build it with `rt check pending_list`",
+            path.display()
+        ));
+    }
+    println!("self-check: {} damaged answers, each reported", selfcheck::run()?);
+    let mut run = Run::new(FIXED_SEED, Tally::new());
+    program_cases::compare_named(&mut run)?;
+    println!("named inputs of pending_list: {}", run.tally.programs);
+    let mut tally = run.tally;
+    for seed in &options.seeds {
+        tally = compare_with(*seed, options.inputs, tally)?;
+    }
+    Ok(tally)
+}
+
+/// Each refusal of each call has to come up often enough, unless the run is shorter than it is meant to be.
+fn enough(tally: &Tally) -> Result<(), String> {
+    let lacking = tally.lacking();
+    if lacking.is_empty() {
+        return Ok(());
+    }
+    let text = format!("fewer than {LEAST} times: {}", lacking.join(", "));
+    if tally.inputs() < INPUTS {
+        println!("{text} (a short run: this does not count)");
+        return Ok(());
+    }
+    Err(text)
+}
+
+fn main() -> ExitCode {
+    let Some(options) = options() else {
+        eprintln!("{USAGE}");
+        return ExitCode::from(2);
+    };
+    let start = Instant::now();
+    let outcome = compare(&options).and_then(|tally| {
+        tally.print();
+        enough(&tally)?;
+        Ok(tally)
+    });
+    let seconds = start.elapsed().as_secs_f64();
+    match outcome {
+        Ok(t) => {
+            let inputs = t.inputs();
+            let parts =
+                format!("{} records, {} datagrams, {} calls", t.records, t.datagrams, t.calls);
+            let others = format!("{} listing rows, {} inputs of pending_list", t.rows, t.programs);
+            println!("compare: {inputs} inputs ({parts}), {others}, no difference, {seconds:.1} s");
+            ExitCode::SUCCESS
+        }
+        Err(text) => {
+            println!("compare: FAILED after {seconds:.1} s: {text}");
+            ExitCode::FAILURE
+        }
+    }
+}

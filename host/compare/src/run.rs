@@ -1,0 +1,124 @@
+//! One run: which inputs come in which turn. Damages and spoiled tables go round, so that each has its turn.
+
+use std::any::Any;
+use std::panic::{catch_unwind, AssertUnwindSafe};
+
+use crate::damage::{self, Damage};
+use crate::datagrams;
+use crate::emit::Extra;
+use crate::headers::{compare_both_ways, compare_datagram, compare_record};
+use crate::illformed;
+use crate::random::Random;
+use crate::records::{self, Case};
+use crate::rubbish::Rubbish;
+use crate::tables;
+use crate::tally::Tally;
+
+/// A panic of either program is a difference like others, so that its input is told.
+pub fn caught<T>(work: impl FnOnce() -> Result<T, String>) -> Result<T, String> {
+    let stopped = |payload: Box<dyn Any + Send>| {
+        let text = payload.downcast_ref::<String>().map(String::as_str);
+        let text = text.or(payload.downcast_ref::<&str>().copied());
+        Err(format!("a panic: {}", text.unwrap_or("without words")))
+    };
+    catch_unwind(AssertUnwindSafe(work)).unwrap_or_else(stopped)
+}
+
+pub struct Run {
+    pub random: Random,
+    pub rubbish: Rubbish,
+    pub damages: Vec<Damage>,
+    pub tally: Tally,
+}
+
+impl Run {
+    pub fn new(seed: u64, tally: Tally) -> Run {
+        let mut random = Random::new(seed);
+        let rubbish = Rubbish::new(&mut random);
+        Run { random, rubbish, damages: damage::all(), tally }
+    }
+
+    /// Turns until so many inputs more were compared.
+    pub fn play(&mut self, inputs: u64) -> Result<(), String> {
+        let end = self.tally.inputs() + inputs;
+        let mut turn = 0;
+        while self.tally.inputs() < end {
+            self.turn(turn)?;
+            turn += 1;
+        }
+        Ok(())
+    }
+
+    fn turn(&mut self, turn: u64) -> Result<(), String> {
+        self.valid()?;
+        self.damaged(2 * turn)?;
+        self.damaged(2 * turn + 1)?;
+        self.damaged_twice()?;
+        match turn % 8 {
+            0 | 4 => tables::compare_list(self)?,
+            2 => illformed::compare_spoiled(self, turn / 8)?,
+            6 if turn % 48 == 6 => datagrams::compare_longest(self)?,
+            6 if turn % 48 == 30 => self.cut()?,
+            _ => {}
+        }
+        Ok(())
+    }
+
+    /// A valid record there and back, and what becomes of its datagram.
+    fn valid(&mut self) -> Result<(), String> {
+        let case = records::case(&mut self.random);
+        let datagram = compare_both_ways(self, &case)?;
+        for _ in 0..3 {
+            let changed = datagrams::changed(&datagram, &mut self.random);
+            compare_datagram(self, &changed)?;
+        }
+        let length = self.random.index(datagram.len());
+        compare_datagram(self, &datagram[..length])?;
+        let extra = datagrams::with_extra(&case, &mut self.random);
+        compare_datagram(self, &extra)?;
+        let noise = datagrams::noise(&mut self.random);
+        compare_datagram(self, &noise)?;
+        Ok(())
+    }
+
+    /// A record with one damage, which has its own refusal, and the datagram of it.
+    fn damaged(&mut self, turn: u64) -> Result<(), String> {
+        let damage = &self.damages[(turn % self.damages.len() as u64) as usize];
+        let (name, number) = (damage.name.clone(), damage.number);
+        let case = damage.case(&mut self.random);
+        compare_record(self, &case)?;
+        let plain = reference::check(&case.record, case.count);
+        if plain != Err(number) {
+            return Err(format!(
+                "{name}: both programs answer {plain:?}, not {number}\ninput: {case:?}"
+            ));
+        }
+        let datagram = datagrams::of_record(&case, Extra::default(), &mut self.random);
+        compare_datagram(self, &datagram)?;
+        Ok(())
+    }
+
+    /// A damaged record; each refusal is as likely as the others.
+    pub fn damaged_case(&mut self) -> Case {
+        let number = *self.random.pick(&[2, 3, 4, 5, 6, 8, 10, 12]);
+        let fitting: Vec<&Damage> = self.damages.iter().filter(|d| d.number == number).collect();
+        self.random.pick(&fitting).case(&mut self.random)
+    }
+
+    /// Two damages in one record: the order of the checks decides.
+    fn damaged_twice(&mut self) -> Result<(), String> {
+        let (i, j) = (self.random.index(self.damages.len()), self.random.index(self.damages.len()));
+        let mut case = self.damages[i].case(&mut self.random);
+        self.damages[j].add(&mut case, &mut self.random);
+        compare_record(self, &case)?;
+        let datagram = datagrams::of_record(&case, Extra::default(), &mut self.random);
+        compare_datagram(self, &datagram)?;
+        Ok(())
+    }
+
+    fn cut(&mut self) -> Result<(), String> {
+        let case = records::case(&mut self.random);
+        let datagram = compare_both_ways(self, &case)?;
+        datagrams::compare_cuts(self, &datagram)
+    }
+}

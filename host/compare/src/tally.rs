@@ -1,0 +1,93 @@
+//! How often each call gave each refusal, and what a run has to have seen.
+
+/// The calls of the product that can be refused.
+#[derive(Clone, Copy)]
+pub enum Kind {
+    Read,
+    Check,
+    Write,
+    Post,
+    Receipt,
+    Release,
+    ListRow,
+}
+
+/// Each call's name, and the refusals that it can give.
+const KINDS: [(&str, &[u32]); 7] = [
+    ("read", &[1, 2, 3, 4, 5, 6, 7, 8, 9, 10, 12]),
+    ("check", &[2, 3, 4, 5, 6, 8, 10, 12]),
+    ("write", &[2, 3, 4, 5, 6, 8, 10, 11, 12]),
+    ("post", &[2, 3, 4, 5, 6, 8, 10, 12, 20, 21, 22, 23, 29, 30]),
+    ("receipt", &[2, 3, 4, 5, 6, 8, 10, 12, 24, 25, 26, 27, 28, 29, 30]),
+    ("release", &[3, 4, 6, 26, 30]),
+    ("list_row", &[11, 30]),
+];
+
+/// 0 stands for done.
+const NUMBERS: [u32; 24] =
+    [0, 1, 2, 3, 4, 5, 6, 7, 8, 9, 10, 11, 12, 20, 21, 22, 23, 24, 25, 26, 27, 28, 29, 30];
+
+pub const LEAST: u64 = 50;
+
+pub struct Tally {
+    seen: [[u64; 31]; 7],
+    pub records: u64,
+    pub datagrams: u64,
+    pub calls: u64,
+    pub rows: u64,
+    pub programs: u64,
+}
+
+impl Tally {
+    pub fn new() -> Tally {
+        Tally { seen: [[0; 31]; 7], records: 0, datagrams: 0, calls: 0, rows: 0, programs: 0 }
+    }
+
+    pub fn inputs(&self) -> u64 {
+        self.records + self.datagrams + self.calls
+    }
+
+    /// Notes an answer. A number that the call cannot give is a difference even where both programs agree.
+    pub fn note(&mut self, kind: Kind, number: u32) -> Result<(), String> {
+        let (name, possible) = KINDS[kind as usize];
+        if number != 0 && !possible.contains(&number) {
+            return Err(format!("{name} was refused with {number}, which is none of its refusals"));
+        }
+        self.seen[kind as usize][number as usize] += 1;
+        Ok(())
+    }
+
+    pub fn print(&self) {
+        let names: String = KINDS.iter().map(|(name, _)| format!("{name:>10}")).collect();
+        println!("{:<8}{names}{:>10}", "refusal", "all");
+        for number in NUMBERS {
+            self.print_line(number);
+        }
+    }
+
+    fn print_line(&self, number: u32) {
+        let label = if number == 0 { "done".to_string() } else { number.to_string() };
+        let mut line = format!("{label:<8}");
+        let mut all = 0;
+        for (seen, (_, possible)) in self.seen.iter().zip(KINDS) {
+            all += seen[number as usize];
+            if number == 0 || possible.contains(&number) {
+                line += &format!("{:>10}", seen[number as usize]);
+            } else {
+                line += &format!("{:>10}", "-");
+            }
+        }
+        println!("{line}{all:>10}");
+    }
+
+    /// Every refusal that came up too seldom, call by call.
+    pub fn lacking(&self) -> Vec<String> {
+        let mut lacking = Vec::new();
+        for (seen, (name, possible)) in self.seen.iter().zip(KINDS) {
+            for number in possible.iter().filter(|n| seen[**n as usize] < LEAST) {
+                lacking.push(format!("{name} {number}: {} times", seen[*number as usize]));
+            }
+        }
+        lacking
+    }
+}
