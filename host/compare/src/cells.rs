@@ -1,6 +1,6 @@
 //! The cells of the product's structs, each of them named once: a struct of zeros, the first cell in which two
-//! structs differ, and a way to come by every cell. A field left out below does not compile, because the struct of
-//! zeros needs them all.
+//! structs differ, and a way to come by every cell. The wrapper hands over
+//! every struct with its fields.
 
 use pruvelaccio::*;
 
@@ -88,40 +88,4 @@ macro_rules! cells {
     )+ };
 }
 
-cells! {
-    OptionalNumber { present, value }
-    Text { chars, len }
-    OptionalText { present, text }
-    Address { urn, name }
-    OptionalAddress { present, address }
-    Addresses { list, count }
-    OptionalAddresses { present, addresses }
-    Front { version, compression, originator, recipients, information }
-    Date { year, month, day }
-    Time { hour, minute, second }
-    Dtg { date, time }
-    OptionalDtg { present, dtg }
-    Stamp { dtg, extension }
-    OptionalStamp { present, stamp }
-    Identity { fad, number, subtype }
-    OptionalIdentity { present, identity }
-    Format { umf, version, identity, file }
-    Codes { operation, retransmit, precedence, classification }
-    Handling { size, codes, marking }
-    Requests { machine, acknowledge, reply }
-    OptionalRequests { present, requests }
-    Times { origin, perish, requests }
-    Compliance { code, cantco, cantpro }
-    Response { stamp, compliance, amplification }
-    OptionalResponse { present, response }
-    Reference { address, stamp }
-    References { list, count }
-    OptionalReferences { present, references }
-    Block { format, handling, times, response, references }
-    Blocks { list, count }
-    Header { front, sized, blocks }
-    Key { address, stamp }
-    Recipient { address, machine, acknowledge, reply }
-    Row { key, asked, recipients, count }
-    Table { rows, count }
-}
+pruvelaccio::each_struct!(cells);

@@ -1,10 +1,11 @@
 //! Records and datagrams laid before both programs: reading, the user data, the check and writing.
 
+use pruvelaccio::raw::{ReadAnswer, SizeAnswer};
 use reference::Header;
 
 use crate::cells::Cells;
 use crate::convert;
-use crate::library::{self, ReadAnswer, SizeAnswer};
+use crate::library;
 use crate::records::Case;
 use crate::run::{caught, Run};
 use crate::tally::Kind;

@@ -2,46 +2,10 @@
 //! wrapper leaves out what stands beside a refusal (the zero record, length 0, the table as it came), so what is
 //! compared are the function's own answers; here the wrapper is held against them.
 
+use pruvelaccio::raw::{self, ReadAnswer, SizeAnswer, TableAnswer};
 use pruvelaccio::{Header, Key, Refusal, Table};
 
 use crate::cells::Cells;
-
-#[repr(C)]
-#[derive(Clone, Copy)]
-pub struct ReadAnswer {
-    pub number: u32,
-    pub place: usize,
-    pub length: usize,
-    pub header: Header,
-}
-
-#[repr(C)]
-#[derive(Clone, Copy, Debug, PartialEq, Eq)]
-pub struct SizeAnswer {
-    pub number: u32,
-    pub place: usize,
-    pub length: usize,
-}
-
-#[repr(C)]
-#[derive(Clone, Copy)]
-pub struct TableAnswer {
-    pub number: u32,
-    pub place: usize,
-    pub table: Table,
-}
-
-extern "C" {
-    fn pruvelaccio_read_value(datagram: *const u8, length: usize) -> ReadAnswer;
-    fn pruvelaccio_data_start(datagram: *const u8, length: usize) -> usize;
-    fn pruvelaccio_check_value(header: Header, count: usize) -> SizeAnswer;
-    fn pruvelaccio_write_value(h: Header, count: usize, out: *mut u8, room: usize) -> SizeAnswer;
-    fn pruvelaccio_empty_value() -> Table;
-    fn pruvelaccio_post_value(t: Table, h: Header, number: u32, count: usize) -> TableAnswer;
-    fn pruvelaccio_receipt_value(t: Table, h: Header, number: u32, count: usize) -> TableAnswer;
-    fn pruvelaccio_release_value(table: Table, key: Key) -> TableAnswer;
-    fn pruvelaccio_list_row_value(t: Table, number: u32, out: *mut u8, room: usize) -> SizeAnswer;
-}
 
 fn refusal<T>(number: u32, place: usize, done: T) -> Result<T, Refusal> {
     if number == 0 {
@@ -60,7 +24,7 @@ fn agree<T: PartialEq + std::fmt::Debug>(call: &str, own: T, wrapper: T) -> Resu
 
 pub fn read(datagram: &[u8]) -> Result<ReadAnswer, String> {
     // SAFETY: pointer and length are those of one slice.
-    let own = unsafe { pruvelaccio_read_value(datagram.as_ptr(), datagram.len()) };
+    let own = unsafe { raw::pruvelaccio_read_value(datagram.as_ptr(), datagram.len()) };
     let wrapper = pruvelaccio::read(datagram);
     let told = refusal(own.number, own.place, own.length);
     agree("read", told, wrapper.map(|read| read.length))?;
@@ -72,7 +36,7 @@ pub fn read(datagram: &[u8]) -> Result<ReadAnswer, String> {
 /// Where the user data starts, and how many octets it has.
 pub fn user_data(datagram: &[u8]) -> Result<(usize, usize), String> {
     // SAFETY: as in `read`.
-    let start = unsafe { pruvelaccio_data_start(datagram.as_ptr(), datagram.len()) };
+    let start = unsafe { raw::pruvelaccio_data_start(datagram.as_ptr(), datagram.len()) };
     let part = pruvelaccio::user_data(datagram);
     let offset = part.as_ptr() as usize - datagram.as_ptr() as usize;
     agree("user_data", (start, datagram.len().wrapping_sub(start)), (offset, part.len()))?;
@@ -81,7 +45,7 @@ pub fn user_data(datagram: &[u8]) -> Result<(usize, usize), String> {
 
 pub fn check(header: &Header, count: usize) -> Result<SizeAnswer, String> {
     // SAFETY: every struct is a valid argument; it goes by value.
-    let own = unsafe { pruvelaccio_check_value(*header, count) };
+    let own = unsafe { raw::pruvelaccio_check_value(*header, count) };
     let told = refusal(own.number, own.place, own.length);
     agree("check", told, pruvelaccio::check(header, count))?;
     Ok(own)
@@ -90,7 +54,7 @@ pub fn check(header: &Header, count: usize) -> Result<SizeAnswer, String> {
 pub fn write(header: &Header, count: usize, out: &mut [u8]) -> Result<SizeAnswer, String> {
     let mut second = out.to_vec();
     // SAFETY: pointer and length are those of a slice lent for this call alone.
-    let own = unsafe { pruvelaccio_write_value(*header, count, out.as_mut_ptr(), out.len()) };
+    let own = unsafe { raw::pruvelaccio_write_value(*header, count, out.as_mut_ptr(), out.len()) };
     let told = refusal(own.number, own.place, own.length);
     agree("write", told, pruvelaccio::write(header, count, &mut second))?;
     agree("write", &*out, &second)?;
@@ -99,7 +63,7 @@ pub fn write(header: &Header, count: usize, out: &mut [u8]) -> Result<SizeAnswer
 
 pub fn empty() -> Result<Table, String> {
     // SAFETY: no argument.
-    let own = unsafe { pruvelaccio_empty_value() };
+    let own = unsafe { raw::pruvelaccio_empty_value() };
     agree("empty", own.difference(&Table::empty()), None)?;
     Ok(own)
 }
@@ -120,26 +84,26 @@ fn changed(
 
 pub fn post(t: &Table, h: &Header, number: u32, count: usize) -> Result<TableAnswer, String> {
     // SAFETY: as in `check`.
-    let own = unsafe { pruvelaccio_post_value(*t, *h, number, count) };
+    let own = unsafe { raw::pruvelaccio_post_value(*t, *h, number, count) };
     changed("post", t, own, |table| table.post(h, number, count))
 }
 
 pub fn receipt(t: &Table, h: &Header, number: u32, count: usize) -> Result<TableAnswer, String> {
     // SAFETY: as in `check`.
-    let own = unsafe { pruvelaccio_receipt_value(*t, *h, number, count) };
+    let own = unsafe { raw::pruvelaccio_receipt_value(*t, *h, number, count) };
     changed("receipt", t, own, |table| table.receipt(h, number, count))
 }
 
 pub fn release(t: &Table, key: &Key) -> Result<TableAnswer, String> {
     // SAFETY: as in `check`.
-    let own = unsafe { pruvelaccio_release_value(*t, *key) };
+    let own = unsafe { raw::pruvelaccio_release_value(*t, *key) };
     changed("release", t, own, |table| table.release(key))
 }
 
 pub fn list_row(t: &Table, number: u32, out: &mut [u8]) -> Result<SizeAnswer, String> {
     let mut second = out.to_vec();
     // SAFETY: as in `write`.
-    let own = unsafe { pruvelaccio_list_row_value(*t, number, out.as_mut_ptr(), out.len()) };
+    let own = unsafe { raw::pruvelaccio_list_row_value(*t, number, out.as_mut_ptr(), out.len()) };
     let told = refusal(own.number, own.place, own.length);
     agree("list_row", told, t.list_row(number, &mut second))?;
     agree("list_row", &*out, &second)?;

@@ -1,13 +1,13 @@
 //! Whether the comparison can fail at all: answers that were damaged on purpose have to be reported, and those left
 //! alone must not be.
 
+use pruvelaccio::raw::{ReadAnswer, SizeAnswer, TableAnswer};
 use pruvelaccio::{Header, Table};
 use reference::Board;
 
 use crate::cells::Cells;
 use crate::convert;
 use crate::headers::{same_octets, same_reading, same_size};
-use crate::library::{ReadAnswer, SizeAnswer, TableAnswer};
 use crate::pool::{self, Pool};
 use crate::program::same_output;
 use crate::random::Random;

@@ -1,12 +1,13 @@
 //! Lists of postings, receipts and releases, played to both programs side by side.
 
+use pruvelaccio::raw::TableAnswer;
 use pruvelaccio::Table;
 use reference::{Board, Key};
 
 use crate::cells::Cells;
 use crate::convert;
 use crate::damage::{BAD_ADDRESSES, BAD_DTGS};
-use crate::library::{self, TableAnswer};
+use crate::library;
 use crate::listing;
 use crate::pool::{self, Pool};
 use crate::random::Random;

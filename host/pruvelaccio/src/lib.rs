@@ -6,7 +6,7 @@
 
 mod call;
 mod load;
-mod raw;
+pub mod raw;
 mod record;
 mod refusal;
 

@@ -129,43 +129,7 @@ macro_rules! cells {
     )+ };
 }
 
-cells! {
-    OptionalNumber { present, value }
-    Text { chars, len }
-    OptionalText { present, text }
-    Address { urn, name }
-    OptionalAddress { present, address }
-    Addresses { list, count }
-    OptionalAddresses { present, addresses }
-    Front { version, compression, originator, recipients, information }
-    Date { year, month, day }
-    Time { hour, minute, second }
-    Dtg { date, time }
-    OptionalDtg { present, dtg }
-    Stamp { dtg, extension }
-    OptionalStamp { present, stamp }
-    Identity { fad, number, subtype }
-    OptionalIdentity { present, identity }
-    Format { umf, version, identity, file }
-    Codes { operation, retransmit, precedence, classification }
-    Handling { size, codes, marking }
-    Requests { machine, acknowledge, reply }
-    OptionalRequests { present, requests }
-    Times { origin, perish, requests }
-    Compliance { code, cantco, cantpro }
-    Response { stamp, compliance, amplification }
-    OptionalResponse { present, response }
-    Reference { address, stamp }
-    References { list, count }
-    OptionalReferences { present, references }
-    Block { format, handling, times, response, references }
-    Blocks { list, count }
-    Header { front, sized, blocks }
-    Key { address, stamp }
-    Recipient { address, machine, acknowledge, reply }
-    Row { key, asked, recipients, count }
-    Table { rows, count }
-}
+crate::each_struct!(cells);
 
 fn load_whole<T: Cell>(octets: &[u8]) -> Result<T, LoadFault> {
     let (expected, found) = (size_of::<T>(), octets.len());

@@ -1,4 +1,5 @@
-//! The exported functions as the static library has them: structs by value, a slice as a pointer and a length.
+//! The exported functions as the static library has them: structs by value, a slice as a pointer and a length. The safe
+//! calls of this crate stand over them; a host needs them only for what a safe call leaves out beside a refusal.
 
 use crate::record::{Header, Key, Table};
 
@@ -12,7 +13,7 @@ pub struct ReadAnswer {
 }
 
 #[repr(C)]
-#[derive(Clone, Copy)]
+#[derive(Clone, Copy, Debug, PartialEq, Eq)]
 pub struct SizeAnswer {
     pub number: u32,
     pub place: usize,

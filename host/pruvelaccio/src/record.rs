@@ -295,3 +295,48 @@ pub struct Table {
     pub rows: [Row; 32],
     pub count: u32,
 }
+
+/// Hands every struct of this module with its fields, in the order of their octets, to a macro. What walks the
+/// structs field by field takes them from here; a field left out would not compile there.
+#[macro_export]
+macro_rules! each_struct {
+    ($walk:ident) => {
+        $walk! {
+            OptionalNumber { present, value }
+            Text { chars, len }
+            OptionalText { present, text }
+            Address { urn, name }
+            OptionalAddress { present, address }
+            Addresses { list, count }
+            OptionalAddresses { present, addresses }
+            Front { version, compression, originator, recipients, information }
+            Date { year, month, day }
+            Time { hour, minute, second }
+            Dtg { date, time }
+            OptionalDtg { present, dtg }
+            Stamp { dtg, extension }
+            OptionalStamp { present, stamp }
+            Identity { fad, number, subtype }
+            OptionalIdentity { present, identity }
+            Format { umf, version, identity, file }
+            Codes { operation, retransmit, precedence, classification }
+            Handling { size, codes, marking }
+            Requests { machine, acknowledge, reply }
+            OptionalRequests { present, requests }
+            Times { origin, perish, requests }
+            Compliance { code, cantco, cantpro }
+            Response { stamp, compliance, amplification }
+            OptionalResponse { present, response }
+            Reference { address, stamp }
+            References { list, count }
+            OptionalReferences { present, references }
+            Block { format, handling, times, response, references }
+            Blocks { list, count }
+            Header { front, sized, blocks }
+            Key { address, stamp }
+            Recipient { address, machine, acknowledge, reply }
+            Row { key, asked, recipients, count }
+            Table { rows, count }
+        }
+    };
+}

@@ -2,21 +2,12 @@
 
 mod support;
 
-// The structs that the library answers with are private to the crate, so their source is taken in here.
-#[allow(dead_code)]
-#[path = "../src/raw.rs"]
-mod raw;
-
-mod record {
-    pub use pruvelaccio::{Header, Key, Table};
-}
-
 use std::mem::{offset_of, size_of};
 use std::path::{Path, PathBuf};
 use std::process::Command;
 
 use pruvelaccio::*;
-use raw::{ReadAnswer, SizeAnswer, TableAnswer};
+use pruvelaccio::raw::{ReadAnswer, SizeAnswer, TableAnswer};
 use support::*;
 
 /// `OptionalNumber` is `optional_number` in C.
@@ -46,46 +37,13 @@ macro_rules! layout {
 }
 
 fn layout_in_rust() -> Vec<String> {
-    layout! {
-        OptionalNumber { present, value }
-        Text { chars, len }
-        OptionalText { present, text }
-        Address { urn, name }
-        OptionalAddress { present, address }
-        Addresses { list, count }
-        OptionalAddresses { present, addresses }
-        Front { version, compression, originator, recipients, information }
-        Date { year, month, day }
-        Time { hour, minute, second }
-        Dtg { date, time }
-        OptionalDtg { present, dtg }
-        Stamp { dtg, extension }
-        OptionalStamp { present, stamp }
-        Identity { fad, number, subtype }
-        OptionalIdentity { present, identity }
-        Format { umf, version, identity, file }
-        Codes { operation, retransmit, precedence, classification }
-        Handling { size, codes, marking }
-        Requests { machine, acknowledge, reply }
-        OptionalRequests { present, requests }
-        Times { origin, perish, requests }
-        Compliance { code, cantco, cantpro }
-        Response { stamp, compliance, amplification }
-        OptionalResponse { present, response }
-        Reference { address, stamp }
-        References { list, count }
-        OptionalReferences { present, references }
-        Block { format, handling, times, response, references }
-        Blocks { list, count }
-        Header { front, sized, blocks }
-        Key { address, stamp }
-        Recipient { address, machine, acknowledge, reply }
-        Row { key, asked, recipients, count }
-        Table { rows, count }
+    let answers = layout! {
         ReadAnswer { number, place, length, header }
         SizeAnswer { number, place, length }
         TableAnswer { number, place, table }
-    }
+    };
+    let structs = pruvelaccio::each_struct!(layout);
+    structs.into_iter().chain(answers).collect()
 }
 
 fn repository() -> PathBuf {
