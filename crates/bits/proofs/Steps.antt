@@ -3,6 +3,10 @@ use mathlib.Core.Path.{_≡_}
 use Prim.Native.Nat.{ℕ, _+_, _-_, _*_, _/_, _%_, _≤_, _<_, min}
 use native.Mathlib.Omega.{arith}
 
+-- a place is bit at % 8 of octet at / 8
+pub in-octet : (at : ℕ) → 8 * (at / 8) + at % 8 ≡ at
+in-octet at = omega arith
+
 -- the octets that w bits from place `at` on touch: one step for each
 abbrev pub stepsOf : ℕ → ℕ → ℕ
 stepsOf at w = (at % 8 + w + 7) / 8

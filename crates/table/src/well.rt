@@ -27,6 +27,7 @@ use codec::Check;
 use codec::earlier;
 use header::Address;
 use header::Requests;
+use header::addressees::one_less;
 use order::Comparison;
 use order::Key;
 use order::compare_addresses;
@@ -130,9 +131,21 @@ fn key_before(a: Key, b: Key) -> bool
     is_less(compare_keys(a, b))
 }
 
-fn recipients_fine(r: Row) -> bool
+// The first has none before it; any other comes after the one before.
+fn address_follows(i: usize, last: Address, x: Address) -> bool
+    ensures { λ r. ⌜ r ≡ eqb i 0 || choose (byAddress (addressOf last) (addressOf x)) true false false ⌝ }
+{
+    if i == 0 {
+        return true;
+    }
+    address_before(last, x)
+}
+
+// Each recipient is fine, and they are in order: none twice. One loop for both, because each function
+// that indexes a row has a copy of it.
+fn recipients_right(r: Row) -> bool
     requires { ⌜ r .count ≤ 16 ⌝ }
-    ensures { λ s. ⌜ s ≡ all (recipientFine (r .asked)) (usedRecipients r) ⌝ }
+    ensures { λ s. ⌜ s ≡ all (recipientFine (r .asked)) (usedRecipients r) && increasing byAddress (addressesOf r) ⌝ }
 {
     let asked = r.asked;
     let n = r.count as usize;
@@ -142,22 +155,8 @@ fn recipients_fine(r: Row) -> bool
         if !recipient_fine(asked, x) {
             return false;
         }
-        i += 1;
-    }
-    true
-}
-
-// Each recipient before the next: no address twice.
-fn recipients_in_order(r: Row) -> bool
-    requires { ⌜ r .count ≤ 16 ⌝ }
-    ensures { λ s. ⌜ s ≡ increasing byAddress (addressesOf r) ⌝ }
-{
-    let n = r.count as usize;
-    let mut i: usize = 0;
-    while i + 1 < n {
-        let x = r.recipients[i];
-        let y = r.recipients[i + 1];
-        if !address_before(x.address, y.address) {
+        let last = r.recipients[one_less(i)];
+        if !address_follows(i, last.address, x.address) {
             return false;
         }
         i += 1;
@@ -187,47 +186,21 @@ pub fn row_fine(r: Row) -> bool
     if 16 < count {
         return false;
     }
-    if !recipients_fine(r) {
-        return false;
-    }
-    recipients_in_order(r)
+    recipients_right(r)
 }
 
-fn rows_fine(t: Table) -> bool
-    requires { ⌜ t .count ≤ 32 ⌝ }
-    ensures { λ r. ⌜ r ≡ all rowFine (usedRows t) ⌝ }
+fn key_follows(i: usize, last: Key, x: Key) -> bool
+    ensures { λ r. ⌜ r ≡ eqb i 0 || choose (byKey (keyOf last) (keyOf x)) true false false ⌝ }
 {
-    let n = t.count as usize;
-    let mut i: usize = 0;
-    while i < n {
-        let row = t.rows[i];
-        if !row_fine(row) {
-            return false;
-        }
-        i += 1;
+    if i == 0 {
+        return true;
     }
-    true
+    key_before(last, x)
 }
 
-// Each row before the next: no key twice.
-fn rows_in_order(t: Table) -> bool
-    requires { ⌜ t .count ≤ 32 ⌝ }
-    ensures { λ r. ⌜ r ≡ increasing byKey (keysOf t) ⌝ }
-{
-    let n = t.count as usize;
-    let mut i: usize = 0;
-    while i + 1 < n {
-        let x = t.rows[i];
-        let y = t.rows[i + 1];
-        if !key_before(x.key, y.key) {
-            return false;
-        }
-        i += 1;
-    }
-    true
-}
-
-// For any table at all: a count over 32 is refused before a row is looked at.
+// For any table at all: a count over 32 is refused before a row is looked at. Then each row is fine and
+// comes after the one before it: no key twice. The loop stands here because each function that indexes
+// a table has a copy of it.
 pub fn well_formed(t: Table) -> bool
     ensures { λ r. ⌜ r ≡ wellFormed t ⌝ }
 {
@@ -235,8 +208,18 @@ pub fn well_formed(t: Table) -> bool
     if 32 < count {
         return false;
     }
-    if !rows_fine(t) {
-        return false;
+    let n = count as usize;
+    let mut i: usize = 0;
+    while i < n {
+        let row = t.rows[i];
+        if !row_fine(row) {
+            return false;
+        }
+        let last = t.rows[one_less(i)];
+        if !key_follows(i, last.key, row.key) {
+            return false;
+        }
+        i += 1;
     }
-    rows_in_order(t)
+    true
 }

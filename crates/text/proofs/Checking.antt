@@ -1,12 +1,12 @@
 -- A text's check, character by character. Assumes nothing.
-use Prim.Native.Nat.{ℕ, zero, suc, _+_, _-_, _<_, _≤_}
-use mathlib.Core.Path.{_≡_, refl, ap, _∙_}
+use Prim.Native.Nat.{ℕ, zero, suc, _+_, _-_, _<_, _≤_, max}
+use mathlib.Core.Path.{_≡_, refl, ap, sym, _∙_}
 use mathlib.Core.Bool.{Bool, true, false, _&&_}
 use mathlib.Core.List.{List, [], _∷_}
 use lib.ListN.{length, take, drop, getD, length-take, drop-of-length-le}
 use lib.Seq.{drop-cons, getD-take}
 use lib.Dec.{leb, eqb}
-use borrow.Author.Tests.{le-leb, lt-leb, eq-eqb}
+use borrow.Author.Tests.{le-leb, lt-leb, leb-true, leb-false}
 use native.Mathlib.Numerals.{add-one}
 use native.Mathlib.Omega.{arith}
 use Rattle.codec.specs.Answer.{pick}
@@ -43,31 +43,51 @@ module _ (most : ℕ) (x : Text) (lx : length (x .chars) ≡ 64) where
         go (suc n) [] k l = absurd (omega arith)
         go (suc n) (c ∷ cs) k l = refl
 
--- the characters before the i-th are legal
-pub record Passed (chars : List ℕ) (len most i : ℕ) : Type 0 where
-  pub within : i ≤ len
-  pub same : legalCharacters most (take len chars) ≡ legalCharacters (most - i) (drop i (take len chars))
+-- the larger of two is legal where both are
+both-legal : (a b : ℕ) → leb a 126 && leb b 126 ≡ leb (max a b) 126
+both-legal a b = go (leb a 126) (leb b 126) refl refl
+  where
+    go : (p q : Bool) → leb a 126 ≡ p → leb b 126 ≡ q → p && q ≡ leb (max a b) 126
+    go true true e f = let x = leb-true a 126 e in let y = leb-true b 126 f in sym (le-leb (max a b) 126 (omega arith))
+    go true false e f = let y = leb-false b 126 f in sym (lt-leb (max a b) 126 (omega arith))
+    go false q e f = let x = leb-false a 126 e in sym (lt-leb (max a b) 126 (omega arith))
 
-pub passed-none : (chars : List ℕ) (len most : ℕ) → Passed chars len most 0
+-- the text is legal where the highest of the characters before the i-th is, and those from the i-th on are
+pub record Passed (chars : List ℕ) (len most highest i : ℕ) : Type 0 where
+  pub within : i ≤ len
+  pub same : legalCharacters most (take len chars) ≡ leb highest 126 && legalCharacters (most - i) (drop i (take len chars))
+
+pub passed-none : (chars : List ℕ) (len most : ℕ) → Passed chars len most 0 0
 passed-none chars len most = record { within = omega arith; same = ap (λ (n : ℕ). legalCharacters n (take len chars)) (omega arith) }
 
-module _ (chars : List ℕ) (len most i : ℕ) (w : Passed chars len most i) (lc : length chars ≡ 64) (lm : most ≤ 64) (ll : len ≤ most) where
-  one-more : i < len → legalCharacters most (take len chars) ≡ leb (getD chars i 0) 126 && legalCharacters (most - (i + 1)) (drop (i + 1) (take len chars))
+module _ (chars : List ℕ) (len most highest i : ℕ) (w : Passed chars len most highest i) (lc : length chars ≡ 64) (lm : most ≤ 64) (ll : len ≤ most) where
+  one-more : i < len → legalCharacters (most - i) (drop i (take len chars)) ≡ leb (getD chars i 0) 126 && legalCharacters (most - (i + 1)) (drop (i + 1) (take len chars))
   unfolding legalCharacters
   one-more k =
       let n : most - i ≡ suc (most - (i + 1)) = omega arith in
       let l : i < length (take len chars) = rw length-take (omega arith) in
-      w .same ∙ rw (n, drop-cons (take len chars) i 0 l, getD-take len chars i 0 k, add-one)
+      rw (n, drop-cons (take len chars) i 0 l, getD-take len chars i 0 k, add-one)
 
-  pub passed-more : i < len → getD chars i 0 ≤ 126 → Passed chars len most (i + 1)
-  passed-more k h = record { within = omega arith; same = one-more k ∙ rw (le-leb (getD chars i 0) 126 h) }
-
-  pub passed-bad : i < len → 126 < getD chars i 0 → legalCharacters most (take len chars) ≡ false
-  passed-bad k h = one-more k ∙ rw (lt-leb (getD chars i 0) 126 h)
-
-  pub passed-all : len ≤ i → legalCharacters most (take len chars) ≡ true
-  unfolding legalCharacters
-  passed-all k = w .same ∙ rw (drop-of-length-le (take len chars) {i = i} (rw length-take (omega arith))) (go (most - i))
+  pub passed-more : i < len → (next : ℕ) → next ≡ max highest (getD chars i 0) → Passed chars len most next (i + 1)
+  passed-more k next e =
+      record {
+        within = omega arith;
+        same =
+            w .same
+            ∙ ap (λ (b : Bool). leb highest 126 && b) (one-more k)
+            ∙ regroup (leb highest 126) (leb (getD chars i 0) 126) (legalCharacters (most - (i + 1)) (drop (i + 1) (take len chars)))
+            ∙ ap (λ (b : Bool). b && legalCharacters (most - (i + 1)) (drop (i + 1) (take len chars))) (both-legal highest (getD chars i 0))
+            ∙ ap (λ (v : ℕ). leb v 126 && legalCharacters (most - (i + 1)) (drop (i + 1) (take len chars))) (sym e);
+      }
     where
-      go : (n : ℕ) → legalCharacters n [] ≡ true
-      go n = refl
+      regroup : (a b c : Bool) → a && (b && c) ≡ (a && b) && c
+      regroup true b c = refl
+      regroup false b c = refl
+
+  pub passed-all : len ≤ i → legalCharacters most (take len chars) ≡ leb highest 126
+  unfolding legalCharacters
+  passed-all k = w .same ∙ rw (drop-of-length-le (take len chars) {i = i} (rw length-take (omega arith))) (go (leb highest 126) (most - i))
+    where
+      go : (b : Bool) (n : ℕ) → b && legalCharacters n [] ≡ b
+      go true n = refl
+      go false n = refl

@@ -1,7 +1,7 @@
 // A text of 7-bit characters: read, written, checked before it is written, and followed to the place
 // where its bits end.
 ghost use mathlib.Core.Path.{_≡_};
-ghost use Prim.Native.Nat.{_+_, _≤_};
+ghost use Prim.Native.Nat.{_+_, _≤_, max};
 ghost use lib.ListN.{length};
 ghost use Rattle.bits.specs.Bits.{bitsOf};
 ghost use Rattle.bits.specs.Units.{datagramLimit};
@@ -114,6 +114,13 @@ pub fn write_text(out: &mut [u8], at: BitPlace, most: usize, t: Text) -> BitPlac
     place
 }
 
+// The larger of two characters.
+fn larger(a: u8, b: u8) -> u8
+    ensures { λ r. ⌜ r ≡ max a b ⌝ }
+{
+    if a < b { b } else { a }
+}
+
 pub fn check_text(most: usize, t: Text) -> Check
     requires { ⌜ most ≤ 64 ⌝ }
     ensures { λ r. ⌜ checkNo r ≡ text most .check t ⌝ }
@@ -126,13 +133,15 @@ pub fn check_text(most: usize, t: Text) -> Check
     if len == 0 {
         return Check::Bad(Fault::BadText);
     }
+    // the highest is judged at the end: a loop with one way out goes many characters at a time
+    let mut highest: u8 = 0;
     let mut i: usize = 0;
     while i < len {
-        let v = chars[i];
-        if 126 < v {
-            return Check::Bad(Fault::BadText);
-        }
+        highest = larger(highest, chars[i]);
         i += 1;
+    }
+    if 126 < highest {
+        return Check::Bad(Fault::BadText);
     }
     Check::Fine
 }

@@ -1,69 +1,29 @@
--- `bits::write_bits` meets its contract. The invariant: the bits done are spliced in. Assumes nothing.
-use mathlib.Core.Path.{_≡_, refl, sym, ap, _∙_, subst}
-use Prim.Native.Nat.{ℕ, _+_, _-_, _/_, _^_, _≤_, _<_}
-use native.Mathlib.Nat.{mod-lt}
-use native.Mathlib.Omega.{arith}
-use lib.ListN.{length, length-set}
-use lib.Pow.{pow-pos}
+-- `bits::write_bits` meets its contract: a place is bit k % 8 of octet k / 8, so each way writes the field at the place. Assumes nothing.
+use mathlib.Core.Path.{_≡_, ap, _∙_}
+use mathlib.Core.List.{List}
+use Prim.Native.Nat.{ℕ, _+_, _*_, _/_, _%_}
 use borrow.Author.Needs.{needs}
-use borrow.Author.Count.{falls}
 use Rattle.bits.specs.Bits.{lowBits, bitsOf, splice}
-use Rattle.bits.proofs.Splices.{splice-nil}
-use Rattle.bits.proofs.Steps.{Turn, turn, at-end, doneAt, stepsOf}
-use Rattle.bits.proofs.WriteStep.{write-more}
+use Rattle.bits.proofs.Steps.{in-octet}
 use Rattle.bits.proofs.write_bits.Statement.{statement}
 use Rattle.bits.proofs.write_bits.Tie as tie
 
-abbrev Inv-loop : tie.InvT-loop
-Inv-loop out₀ w v at octet skip steps done₀ j₀ out done j =
-    (j ≤ stepsOf at w) × (done ≡ doneAt at w j) × (length out ≡ length out₀) × (bitsOf out ≡ splice (bitsOf out₀) at (lowBits done v))
+-- what is written from bit k % 8 of octet k / 8 on is written from place k on
+at-place : (s t : List ℕ) (k w v : ℕ) → bitsOf t ≡ splice (bitsOf s) (8 * (k / 8) + k % 8) (lowBits w v) → bitsOf t ≡ splice (bitsOf s) k (lowBits w v)
+at-place s t k w v e = e ∙ ap (λ (m : ℕ). splice (bitsOf s) m (lowBits w v)) (in-octet k)
 
-abbrev μ-loop : tie.MeasureT-loop
-μ-loop out₀ w v at octet skip steps done₀ j₀ out done j = stepsOf at w - j
-
-loop-holds : tie.Need-loop-holds Inv-loop μ-loop
-unfolding lowBits
-loop-holds c = (omega arith, omega arith, refl, sym (splice-nil (bitsOf (c .before .args .out .now)) (c .before .args .at .0)))
-
--- the numbers of a turn
-the-turn : (c : tie.After-least Inv-loop μ-loop) → Turn (c .before .before .before .before .args .at .0) (c .before .before .before .before .args .w) (c .before .before .loop .j) (c .before .before .loop .done) (c .least .result)
-the-turn c =
-    let l = c .before .before in
-    let a = l .before .before .args in
-    turn (a .at .0) (a .w) (l .loop .j) (l .loop .done) (c .least .result) (c .before .loop-test .taken) (l .loop .inv .1) (c .least .ensures)
-
-index : (c : tie.After-least Inv-loop μ-loop) → c .before .before .before .before .args .at .0 / 8 + c .before .before .loop .j < length (c .before .before .loop .out)
-index c = omega arith
-
-patched-requires : tie.Need-patched-requires Inv-loop μ-loop
-patched-requires c κs =
-    let n = c .before .before .least .result in
-    (the-turn (c .before .before) .within, subst (λ (k : ℕ). k < 2 ^ n) (sym (c .before .fragment .ensures)) (mod-lt _ (pow-pos n)))
-
-loop-less : tie.Need-loop-less Inv-loop μ-loop
-loop-less c =
-    let l = c .before .before .before .before .before in
-    let a = l .before .before .args in
-    falls (stepsOf (a .at .0) (a .w)) (l .loop .j) (c .before .before .before .before .loop-test .taken)
-
-loop-again : tie.Need-loop-again Inv-loop μ-loop
-loop-again c =
-    let t = c .before .before .before in
-    let l = t .before .before in
-    let a = l .before .before .args in (
-      search needs,
-      the-turn t .next,
-      length-set (l .loop .out) (a .at .0 / 8 + l .loop .j) (c .patched .result) ∙ l .loop .inv .2,
-      write-more (a .out .now) (l .loop .out) (a .at .0) (a .w) (a .v) (l .loop .j) (l .loop .done) (t .least .result) (c .before .before .fragment .result) (c .patched .result)
-          (l .before .before .pre .0) (index t) (the-turn t) (l .loop .inv .3) (c .before .before .fragment .ensures) (c .patched .ensures),
-    )
-
-returns : tie.Need-returns Inv-loop μ-loop
+returns : tie.Need-returns
 returns c =
-    let l = c .before in
-    let a = l .before .before .args in
-    l .loop .inv .3 ∙ ap (λ (k : ℕ). splice (bitsOf (a .out .now)) (a .at .0) (lowBits k (a .v))) (at-end (a .at .0) (a .w) (l .loop .j) (l .loop .done) (l .loop .inv .0) (c .loop-test .left) (l .loop .inv .1))
+    let w = c .before .before in
+    let a = w .before .before .before .before .args in
+    at-place (a .out .now) _ (a .at .0) (a .w) (a .v) (w .write-one .ensures)
+
+returns-2 : tie.Need-returns-2
+returns-2 c =
+    let w = c .before .before in
+    let a = w .before .before .before .before .before .args in
+    at-place (a .out .now) _ (a .at .0) (a .w) (a .v) (w .write-two .ensures)
 
 pub write-bits-spec : {M : Type 1} → statement M
 write-bits-spec =
-    tie.close (tie.spec Inv-loop μ-loop (λ c. search needs) (λ c. search needs) loop-holds (λ c. search needs) (λ c. search needs) (λ c. search needs) (λ c κs. search needs) (λ c κs. search needs) (λ c. search needs) (λ c. search needs) patched-requires (λ c. search needs) (λ c. search needs) (λ c. search needs) loop-less loop-again (λ c. search needs) returns)
+    tie.close (tie.spec (λ c. search needs) (λ c κs. search needs) (λ c. search needs) returns (λ c. search needs) (λ c κs. search needs) (λ c. search needs) returns-2 (λ c κs. search needs) (λ c. search needs) (λ c. search needs))

@@ -23,11 +23,7 @@ returns-4 c = rw (← (c .before .before .before .before .before .before .check-
 
 returns-5 : tie.Need-returns-5
 unfolding rowFine
-returns-5 c = rw (← (c .before .before .before .before .before .before .before .before .check-key .ensures), ← (c .before .before .before .before .before .before .before .is-fine .ensures), not-false (c .before .before .before .before .before .before .before .is-fine .result) (c .before .before .before .before .before .before .if1 .left), ← (c .before .before .before .before .before .any-asked .ensures), not-false (c .before .before .before .before .before .any-asked .result) (c .before .before .before .before .if2 .left), le-leb 1 _ (c .before .before .before .if3 .left), le-leb _ 16 (c .before .before .if4 .left), ← (c .before .recipients-fine .ensures), not-true (c .before .recipients-fine .result) (c .if5 .taken))
-
-returns-6 : tie.Need-returns-6
-unfolding rowFine
-returns-6 c = rw (← (c .before .before .before .before .before .before .before .before .before .check-key .ensures), ← (c .before .before .before .before .before .before .before .before .is-fine .ensures), not-false (c .before .before .before .before .before .before .before .before .is-fine .result) (c .before .before .before .before .before .before .before .if1 .left), ← (c .before .before .before .before .before .before .any-asked .ensures), not-false (c .before .before .before .before .before .before .any-asked .result) (c .before .before .before .before .before .if2 .left), le-leb 1 _ (c .before .before .before .before .if3 .left), le-leb _ 16 (c .before .before .before .if4 .left), ← (c .before .before .recipients-fine .ensures), not-false (c .before .before .recipients-fine .result) (c .before .if5 .left), ← (c .recipients-in-order .ensures))
+returns-5 c = rw (← (c .before .before .before .before .before .before .before .check-key .ensures), ← (c .before .before .before .before .before .before .is-fine .ensures), not-false (c .before .before .before .before .before .before .is-fine .result) (c .before .before .before .before .before .if1 .left), ← (c .before .before .before .before .any-asked .ensures), not-false (c .before .before .before .before .any-asked .result) (c .before .before .before .if2 .left), le-leb 1 _ (c .before .before .if3 .left), le-leb _ 16 (c .before .if4 .left)) (c .recipients-right .ensures)
 
 pub row-fine-spec : {M : Type 1} → statement M
-row-fine-spec = tie.close (tie.spec (λ c κs. search needs) (λ c κs. search needs) returns (λ c κs. search needs) returns-2 returns-3 returns-4 (λ c κs. search needs) returns-5 (λ c κs. search needs) returns-6)
+row-fine-spec = tie.close (tie.spec (λ c κs. search needs) (λ c κs. search needs) returns (λ c κs. search needs) returns-2 returns-3 returns-4 (λ c κs. search needs) returns-5)
