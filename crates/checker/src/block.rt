@@ -1,17 +1,15 @@
-// A message block, and the list of them.
+// A message block.
 ghost use mathlib.Core.Path.{_≡_};
 ghost use Rattle.codec.specs.Refusals.{checkNo};
-ghost use Rattle.header.specs.Table.{block, blocks};
+ghost use Rattle.header.specs.Table.{block};
 use crate::format::check_format;
 use crate::handling::check_handling;
 use crate::references::check_optional_references;
 use crate::response::check_optional_response;
 use crate::times::check_times;
 use codec::Check;
-use codec::Fault;
 use codec::earlier;
 use header::Block;
-use header::Blocks;
 
 // A message block; the presence bit of G10 has no cell.
 pub fn check_block(x: Block) -> Check
@@ -26,28 +24,4 @@ pub fn check_block(x: Block) -> Check
     let head = earlier(format, middle);
     let tail = earlier(response, references);
     earlier(head, tail)
-}
-
-// 1 to 16 blocks.
-pub fn check_blocks(x: Blocks) -> Check
-    ensures { λ r. ⌜ checkNo r ≡ blocks .check x ⌝ }
-{
-    let list = x.list;
-    let count = x.count as usize;
-    if 16 < count {
-        return Check::Bad(Fault::Count);
-    }
-    if count == 0 {
-        return Check::Bad(Fault::Count);
-    }
-    let mut i: usize = 0;
-    while i < count {
-        let entry = list[i];
-        let c = check_block(entry);
-        let Check::Fine = c else {
-            return c;
-        };
-        i += 1;
-    }
-    Check::Fine
 }

@@ -1,8 +1,8 @@
-// A message block, and the list of them.
+// A message block.
 ghost use mathlib.Core.Path.{_≡_};
 ghost use Prim.Native.Nat.{_+_};
 ghost use Rattle.codec.specs.Writes.{Placed};
-ghost use Rattle.header.specs.Table.{block, blocks};
+ghost use Rattle.header.specs.Table.{block};
 use crate::format::end_format;
 use crate::handling::end_handling;
 use crate::references::end_optional_references;
@@ -11,7 +11,6 @@ use crate::times::end_times;
 use bits::BitPlace;
 use flag::end_flag;
 use header::Block;
-use header::Blocks;
 
 // A legal block, with the presence bit of G10.
 pub fn end_block(at: BitPlace, x: Block) -> BitPlace
@@ -24,22 +23,4 @@ pub fn end_block(at: BitPlace, x: Block) -> BitPlace
     let at = end_optional_response(at, x.response);
     let at = end_optional_references(at, x.references);
     end_flag(at)
-}
-
-// A legal list of blocks.
-pub fn end_blocks(at: BitPlace, x: Blocks) -> BitPlace
-    requires { ⌜ Placed (at .0) (blocks .size x) × (blocks .check x ≡ 0) ⌝ }
-    ensures { λ r. ⌜ r .0 ≡ at .0 + blocks .size x ⌝ }
-{
-    let list = x.list;
-    let count = x.count as usize;
-    let mut place = at;
-    let mut i: usize = 0;
-    while i < count {
-        let entry = list[i];
-        let behind = end_flag(place);
-        place = end_block(behind, entry);
-        i += 1;
-    }
-    place
 }

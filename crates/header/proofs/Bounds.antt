@@ -131,7 +131,8 @@ references-bounded =
     shaped-bounded _ _
     (optional-bounded noReferences (shaped-bounded _ _ (cells-each noReference 4 4 5 (lit< tt) _ (listed-each noReference reference-bounded 3))))
 
-block-bounded : Bounded block 3315
+-- a legal block takes so many bits at most
+pub block-bounded : Bounded block 3315
 unfolding block
 block-bounded =
     shaped-bounded _ _

@@ -1,2 +1,2 @@
 pub mod Over
-mod Shares
+pub mod Shares

@@ -136,7 +136,7 @@ fn rule_i(x: Setting, b: Block) -> bool
     true
 }
 
-fn both(a: bool, b: bool) -> bool
+pub fn both(a: bool, b: bool) -> bool
     ensures { λ r. ⌜ r ≡ a && b ⌝ }
 {
     if a {
@@ -146,7 +146,7 @@ fn both(a: bool, b: bool) -> bool
 }
 
 // Every rule is kept by a block.
-fn keeps(x: Setting, b: Block) -> bool
+pub fn keeps(x: Setting, b: Block) -> bool
     ensures { λ r. ⌜ r ≡ all (λ rule. rule x b) rules ⌝ }
 {
     let i = both(rule_i(x, b), true);

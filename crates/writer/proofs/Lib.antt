@@ -2,3 +2,4 @@ pub mod Ways
 pub mod Parts
 pub mod Packed
 pub mod Valid
+mod Surveys

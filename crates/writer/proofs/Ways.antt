@@ -48,8 +48,14 @@ bad-answer x f e = rw e (go (faultNo f) (fault-positive f))
     go zero l = absurd (omega arith)
     go (suc k) l = refl
 
+-- a check that says nothing
+pub fine-check : (x : Check) (n : ℕ) → checkNo x ≡ n → tagOf check.the-type x ≡ 0 → n ≡ 0
+unfolding checkNo
+fine-check Check.Fine n e t = sym e
+fine-check (Check.Bad f) n e t = absurd (omega arith)
+
 module _ (h : Header) (count : ℕ) where
-  -- the fields are at fault, or not
+  -- the fields are at fault
   pub bad-fields : (x : Check) → checkNo x ≡ fieldsFault h → tagOf check.the-type x ≡ 1 → answered (checkNo x) 0 ≡ checking h count
   unfolding answered checking faultOf checkNo first
   bad-fields Check.Fine e t = absurd (omega arith)
@@ -58,11 +64,6 @@ module _ (h : Header) (count : ℕ) where
       go : (k x n : ℕ) → 0 < k → answered k 0 ≡ answered (first k x) n
       go zero x n l = absurd (omega arith)
       go (suc k) x n l = refl
-
-  pub fine-fields : (x : Check) → checkNo x ≡ fieldsFault h → tagOf check.the-type x ≡ 0 → fieldsFault h ≡ 0
-  unfolding checkNo
-  fine-fields Check.Fine e t = sym e
-  fine-fields (Check.Bad f) e t = absurd (omega arith)
 
   module _ (fine : fieldsFault h ≡ 0) where
     pub rule-broken : rulesKept h ≡ false → rejected 8 0 ≡ checking h count

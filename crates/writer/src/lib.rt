@@ -3,7 +3,11 @@ ghost use mathlib.Core.Path.{_≡_};
 ghost use lib.ListN.{length};
 ghost use Rattle.codec.specs.Codec.{first};
 ghost use Rattle.codec.specs.Refusals.{checkNo, faultNo};
+ghost use Rattle.header.specs.Rules.{rulesKept};
+ghost use Rattle.header.specs.Sizes.{sizesRight};
+ghost use Rattle.header.specs.Table.{blocks};
 ghost use Rattle.writer.specs.Writing.{fieldsFault, answered, rejected, checking, writing, outputAfter, told};
+use crate::survey::Survey;
 use bits::BitPlace;
 use bits::OctetSize;
 use codec::Check;
@@ -11,6 +15,7 @@ use codec::Fault;
 use codec::earlier;
 use header::Header;
 
+pub mod survey;
 pub mod wire;
 
 // The answer of writing and of the check: done, with the header's octets; or refused with the kind of
@@ -36,13 +41,22 @@ fn refused_by(fields: Check) -> Written
     }
 }
 
-// Every field, in the order of the table.
-fn check_fields(h: Header) -> Check
-    ensures { λ r. ⌜ checkNo r ≡ fieldsFault h ⌝ }
+// Every field, in the order of the table; where none is at fault, what the blocks show besides.
+fn survey_record(h: Header, count: OctetSize) -> Survey
+    ensures { λ r. ⌜ (checkNo (r .fault) ≡ fieldsFault h) × (fieldsFault h ≡ 0 → (r .kept ≡ rulesKept h) × (r .right ≡ sizesRight (h .blocks) (count .0)) × (r .end .0 ≡ blocks .size (h .blocks))) ⌝ }
 {
+    let x = rules::rule::setting_of(h);
+    let survey = survey::survey_blocks(x, h.blocks, count);
     let front = checker::front::check_front(h.front);
-    let blocks = checker::block::check_blocks(h.blocks);
-    earlier(front, blocks)
+    let blocks = survey.fault;
+    let fault = earlier(front, blocks);
+    let end = survey.end;
+    Survey {
+        fault: fault,
+        kept: survey.kept,
+        right: survey.right,
+        end: end,
+    }
 }
 
 // Whether a record is valid with so many octets of user data: the fields, then the rules (8), the
@@ -50,17 +64,20 @@ fn check_fields(h: Header) -> Check
 pub fn check(h: Header, count: OctetSize) -> Written
     ensures { λ r. ⌜ told r ≡ checking h (count .0) ⌝ }
 {
-    let fields = check_fields(h);
+    let survey = survey_record(h, count);
+    let fields = survey.fault;
     let Check::Fine = fields else {
         return refused_by(fields);
     };
-    if !rules::rule::rules_kept(h) {
+    let kept = survey.kept;
+    if !kept {
         return refusal(Fault::Rule);
     }
-    if !rules::sizes::sizes_right(h.blocks, count) {
+    let right = survey.right;
+    if !right {
         return refusal(Fault::Size);
     }
-    let end = wire::fields_end(h);
+    let end = wire::fields_end(h, survey.end);
     let size = bits::whole_octets(end);
     if 65507 - size.0 < count.0 {
         return refusal(Fault::TooLong);

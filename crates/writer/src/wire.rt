@@ -7,7 +7,7 @@ ghost use lib.ListN.{length, drop, replicate};
 ghost use Rattle.bits.specs.Bits.{bitsOf, splice};
 ghost use Rattle.bits.specs.Units.{fillBits, wholeOctets};
 ghost use Rattle.codec.specs.Writes.{Room, Writes};
-ghost use Rattle.header.specs.Table.{wire};
+ghost use Rattle.header.specs.Table.{blocks, wire};
 ghost use Rattle.writer.specs.Writing.{fieldsFault, fieldsEnd, headerSize, headerOf};
 use bits::BitPlace;
 use bits::OctetSize;
@@ -18,18 +18,18 @@ use optional::OptionalNumber;
 use optional::end_optional;
 use optional::write_optional;
 
-// The place behind the fields of a legal record.
-pub fn fields_end(h: Header) -> BitPlace
-    requires { ⌜ fieldsFault h ≡ 0 ⌝ }
+// The place behind the fields of a legal record, whose blocks end at a place where they begin at 0: the
+// fields before the blocks have as many bits behind them.
+pub fn fields_end(h: Header, end: BitPlace) -> BitPlace
+    requires { ⌜ (fieldsFault h ≡ 0) × (end .0 ≡ blocks .size (h .blocks)) ⌝ }
     ensures { λ r. ⌜ r .0 ≡ fieldsEnd h ⌝ }
 {
     let size = OptionalNumber {
         present: h.sized,
         value: 0,
     };
-    let at = ends::front::end_front(BitPlace(0), h.front);
-    let at = end_optional(at, HEADER_SIZE, size);
-    ends::block::end_blocks(at, h.blocks)
+    let at = ends::front::end_front(end, h.front);
+    end_optional(at, HEADER_SIZE, size)
 }
 
 // Every field of the table, legal.
