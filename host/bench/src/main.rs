@@ -1,4 +1,4 @@
-//! The proved code against the same algorithms in Rust: first that both give the same answers, then what each costs.
+//! The proved code against the same rules in Rust: first that both give the same answers, then what each costs.
 //! `--same` stops after the first.
 
 mod calls;

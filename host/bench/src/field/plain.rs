@@ -1,4 +1,5 @@
-//! The same fragment algorithm in Rust, every index checked, behind the same test.
+//! Fields by a loop over octet fragments in Rust, every index checked, behind the same test. The proved functions take this
+//! loop only for fields that reach into a third octet.
 
 use super::fits::fits;
 
