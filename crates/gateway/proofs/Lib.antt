@@ -1,2 +1,1 @@
-mod Numbered
 mod Starts

@@ -9,50 +9,23 @@ ghost use Rattle.reader.specs.Told.{toTell};
 ghost use Rattle.writer.specs.Writing as writer;
 ghost use Rattle.table.specs.Rows.{see};
 ghost use Rattle.table.specs.Zero.{noTable};
-ghost use Rattle.pending.specs.Arguments.{posting, receiving, releasing};
+ghost use Rattle.arguments.specs.Arguments.{posting, receiving, releasing};
 ghost use Rattle.pending.specs.Calls.{Did};
 ghost use Rattle.listing.specs.Listing as listing;
-ghost use Rattle.gateway.specs.Numbers.{readNumbers, writeNumbers, listNumbers};
+ghost use Rattle.answers.specs.Numbers.{readNumbers, writeNumbers, listNumbers};
+use answers::ReadAnswer;
+use answers::SizeAnswer;
+use answers::TableAnswer;
 use bits::OctetSize;
 use header::Header;
 use order::Key;
 use table::Table;
 
-pub mod numbers;
-
-// A reading: number 0, the header's octets and the record; or a refusal's number and place, length 0
-// and the zero record.
-#[repr(C)]
-pub struct ReadAnswer {
-    pub number: u32,
-    pub place: usize,
-    pub length: usize,
-    pub header: Header,
-}
-
-// The check, writing and the listing: number 0 and a size in octets; or a refusal's number and place,
-// and size 0.
-#[repr(C)]
-pub struct SizeAnswer {
-    pub number: u32,
-    pub place: usize,
-    pub length: usize,
-}
-
-// Posting, receipt and release: number 0 or the refusal's, the place, which is always 0, and the table
-// afterwards; refused, the table as it came.
-#[repr(C)]
-pub struct TableAnswer {
-    pub number: u32,
-    pub place: usize,
-    pub table: Table,
-}
-
 #[no_mangle]
 pub extern "C" fn pruvelaccio_read_value(datagram: &[u8]) -> ReadAnswer
     ensures { λ r. ⌜ r ≡ readNumbers (toTell (reading (now (datagram .entry)))) ⌝ }
 {
-    numbers::of_reading(reader::read(datagram))
+    answers::of_reading(reader::read(datagram))
 }
 
 // Where the user data starts: everything from there on follows the header. A refused datagram has none,
@@ -69,7 +42,7 @@ pub extern "C" fn pruvelaccio_data_start(datagram: &[u8]) -> usize
 pub extern "C" fn pruvelaccio_check_value(h: Header, count: usize) -> SizeAnswer
     ensures { λ r. ⌜ r ≡ writeNumbers (writer.checking h count) ⌝ }
 {
-    numbers::of_writing(writer::check(h, OctetSize(count)))
+    answers::of_writing(writer::check(h, OctetSize(count)))
 }
 
 #[no_mangle]
@@ -77,7 +50,7 @@ pub extern "C" fn pruvelaccio_write_value(h: Header, count: usize, out: &mut [u8
     ensures { λ r. ⌜ (r ≡ writeNumbers (writer.writing h count (length (now (out .entry))))) × (now (out .exit) ≡ writer.outputAfter h (writer.writing h count (length (now (out .entry)))) (now (out .entry))) ⌝ }
 {
     let written = writer::write(h, OctetSize(count), out);
-    numbers::of_writing(written)
+    answers::of_writing(written)
 }
 
 #[no_mangle]
@@ -96,7 +69,7 @@ pub extern "C" fn pruvelaccio_post_value(
 ) -> TableAnswer
     ensures { λ r. ⌜ Did (posting h number count) t (r .number) (r .table) × (r .place ≡ 0) ⌝ }
 {
-    numbers::of_call(pending::post(t, h, number, OctetSize(count)))
+    answers::of_call(pending::post(t, h, number, OctetSize(count)))
 }
 
 #[no_mangle]
@@ -108,14 +81,14 @@ pub extern "C" fn pruvelaccio_receipt_value(
 ) -> TableAnswer
     ensures { λ r. ⌜ Did (receiving h number count) t (r .number) (r .table) × (r .place ≡ 0) ⌝ }
 {
-    numbers::of_call(pending::receipt(t, h, number, OctetSize(count)))
+    answers::of_call(pending::receipt(t, h, number, OctetSize(count)))
 }
 
 #[no_mangle]
 pub extern "C" fn pruvelaccio_release_value(t: Table, key: Key) -> TableAnswer
     ensures { λ r. ⌜ Did (releasing key) t (r .number) (r .table) × (r .place ≡ 0) ⌝ }
 {
-    numbers::of_call(pending::release(t, key))
+    answers::of_call(pending::release(t, key))
 }
 
 #[no_mangle]
@@ -123,5 +96,5 @@ pub extern "C" fn pruvelaccio_list_row_value(t: Table, number: u32, out: &mut [u
     ensures { λ r. ⌜ (r ≡ listNumbers (listing.listing t number (length (now (out .entry))))) × (now (out .exit) ≡ listing.outputAfter (see t) number (listing.listing t number (length (now (out .entry)))) (now (out .entry))) ⌝ }
 {
     let listed = listing::list_row(t, number, out);
-    numbers::of_listing(listed)
+    answers::of_listing(listed)
 }

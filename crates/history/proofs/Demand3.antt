@@ -1,6 +1,6 @@
 -- DEMAND 3. Take any list of postings, receipts and releases, refused ones included, and run it from a table with no used row, each call given the table that
 -- the call before left. Then each answer is the one that document 01's sheet gives, the listing (any row number, any output) before the first call and after each is the
--- sheet's, and two neighbours that may change places give every call its same answer and leave the same rows.
+-- sheet's, and two neighbours that may change places give every call its same answer and leave the same table.
 -- The hypotheses: the run, whose steps are the contracts of `post`, `receipt` and `release` (`Did`), the listing's contract cites `listing` and `outputAfter`; that the
 -- first table has no used row; and for the change of places document 01's premise. Assumes nothing else.
 use Prim.Native.Nat.{ℕ, _+_, _≤_}
@@ -18,14 +18,14 @@ use Rattle.order.proofs.Calls as calls
 use Rattle.table.specs.Rows.{see}
 use Rattle.table.specs.WellFormed.{wellFormed}
 use Rattle.table.specs.declared.Table.{Table}
-use Rattle.pending.specs.Arguments.{Arguments, callOf}
-use Rattle.pending.specs.Sheet.{Sheet, sheet, inKeyOrder}
-use Rattle.pending.proofs.SheetIs.{sheet-is, in-key-order}
+use Rattle.arguments.specs.Arguments.{Arguments, callOf}
+use Rattle.history.specs.Sheet.{Sheet, sheet, inKeyOrder}
+use Rattle.history.proofs.SheetIs.{sheet-is, in-key-order}
 use Rattle.listing.specs.Listing.{Listing, listing, listingOf, outputAfter}
 use Rattle.history.specs.History.{Run, tableListing, sheetListing, MayChange, lineFor}
-use Rattle.history.specs.SameTable.{SameTable, Whole}
+use Rattle.history.specs.SameTable.{SameTable}
 use Rattle.history.proofs.SameTables.{see-same}
-use Rattle.history.proofs.Runs.{AllWell, onRows, Went, went, empty-well, no-rows}
+use Rattle.history.proofs.Runs.{AllWell, onRows, Went, went, called-whole, empty-well, no-rows}
 use Rattle.history.proofs.Places.{apart, lines-within}
 
 -- the sheet is the theory's
@@ -88,6 +88,6 @@ module _ {t e t′ e′ : Table} {xs ys : List ℕ} {ts ts′ : List Table} (pre
   pub same-end : see e′ ≡ see e
   same-end = rows-end run′ none′ ∙ changed .sameEnd ∙ sym (rows-end run none)
 
-  -- so that the tables are the same, as document 01 has it; that their arrays have their cells holds of every table of the declared type
-  pub same-table : Whole e′ → Whole e → SameTable e′ e
-  same-table c d = see-same e′ e c d (well-formed run′ none′ .1) (well-formed run none .1) same-end
+  -- so that the tables are the same, as document 01 has it
+  pub same-table : SameTable e′ e
+  same-table = see-same e′ e (called-whole pre b (a ∷ rest) run′) (called-whole pre a (b ∷ rest) run) (well-formed run′ none′ .1) (well-formed run none .1) same-end

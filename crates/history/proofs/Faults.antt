@@ -19,7 +19,7 @@ use Rattle.header.specs.Sizes.{sizesRight}
 use Rattle.header.specs.declared.Header.{Header}
 use Rattle.writer.specs.Writing.{headerSize, faultOf}
 use Rattle.order.specs.declared.Key.{Key as DeclaredKey}
-use Rattle.table.specs.WellFormed.{keyFault}
+use Rattle.order.specs.Values.{keyFault}
 
 first-least : {f g : ℕ} → f ≤ 12 → g ≤ 12 → first f g ≤ 12
 unfolding first

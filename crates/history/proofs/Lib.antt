@@ -1,3 +1,5 @@
+mod Alike
+pub mod SheetIs
 mod Runs
 mod Places
 mod Faults

@@ -11,7 +11,7 @@ use lib.Dec.{leb}
 use native.Mathlib.Omega.{arith}
 use Rattle.codec.specs.Answer.{pick}
 use Rattle.codec.specs.Codec.{first}
-use Rattle.order.specs.Values.{Address, byAddress, byKey}
+use Rattle.order.specs.Values.{Address, byAddress, byKey, keyFault}
 use Rattle.order.specs.Keyed.{find}
 use Rattle.order.specs.Machine.{step}
 use Rattle.order.specs.Requests.{Ask, Mark, settle}
@@ -20,9 +20,9 @@ use Rattle.order.specs.Runs.{answers}
 use Rattle.header.specs.Rules.{all}
 use Rattle.header.specs.declared.Header.{Header}
 use Rattle.table.specs.Rows.{see}
-use Rattle.table.specs.WellFormed.{increasing, keyFault, wellFormed}
+use Rattle.table.specs.WellFormed.{increasing, wellFormed}
 use Rattle.table.specs.declared.Table.{Table}
-use Rattle.pending.specs.Arguments.{Arguments, posting, receiving, releasing, hasBlock, blockAt, asks, someRecipient, oneRecipient, named, postingFault, receiptFault, callOf}
+use Rattle.arguments.specs.Arguments.{Arguments, posting, receiving, releasing, hasBlock, blockAt, asks, someRecipient, oneRecipient, named, postingFault, receiptFault, callOf}
 use Rattle.listing.specs.Text.{listed}
 use Rattle.listing.specs.Listing.{done, rejected, listingOf, listing}
 use Rattle.history.specs.History.{Run}

@@ -5,13 +5,12 @@ use mathlib.Core.Logic.{_≢_, _⊎_, inl, inr}
 use mathlib.Core.Option.{Option, some}
 use native.Mathlib.Omega.{arith}
 use Rattle.header.specs.declared.Header.{Header}
-use Rattle.order.specs.Values.{Address, Key, keyOf, byKey, addressOf}
+use Rattle.order.specs.Values.{Address, Key, keyOf, byKey, addressOf, keyFault}
 use Rattle.order.specs.Calls.{Deed, post, receipt, release, key, Call, Apart, refusedFirst, refusedSecond, messages, answerers, linesFor}
 use Rattle.order.proofs.Orders.{by-key}
 use Rattle.order.proofs.Keyed.{sorted, same-or-not}
-use Rattle.table.specs.WellFormed.{keyFault}
-use Rattle.pending.specs.Arguments.{Arguments, posting, receiving, releasing, postingFault, receiptFault, named, callOf, message, answerer}
-use Rattle.pending.proofs.Names.{message-is, answerer-is}
+use Rattle.arguments.specs.Arguments.{Arguments, posting, receiving, releasing, postingFault, receiptFault, named, callOf, message, answerer}
+use Rattle.arguments.proofs.Names.{message-is, answerer-is}
 use Rattle.history.specs.History.{MayChange, otherMessage, otherAnswerer, lineFor}
 
 by-message : (c d : Call) → ((a b : Deed) → c ≡ inr a → d ≡ inr b → key a ≡ key b → ⊥) → Apart c d

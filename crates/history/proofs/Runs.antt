@@ -2,15 +2,15 @@
 use Prim.Native.Nat.{ℕ}
 use mathlib.Core.Path.{_≡_, refl, ap, ap₂, sym, _∙_}
 use mathlib.Core.Bool.{true}
-use mathlib.Core.List.{List, [], _∷_, map}
+use mathlib.Core.List.{List, [], _∷_, _++_, map}
 use Rattle.codec.specs.Answer.{pick}
 use Rattle.header.specs.Rules.{all}
 use Rattle.order.specs.Calls.{Rows, board}
 use Rattle.order.specs.Runs.{final, answers, states, stop, call}
-use Rattle.table.specs.Rows.{see}
+use Rattle.table.specs.Rows.{see, Whole}
 use Rattle.table.specs.WellFormed.{increasing, wellFormed}
 use Rattle.table.specs.declared.Table.{Table}
-use Rattle.pending.specs.Arguments.{Arguments, callOf}
+use Rattle.arguments.specs.Arguments.{Arguments, callOf}
 use Rattle.pending.specs.Calls.{Did}
 use Rattle.history.specs.History.{Run}
 
@@ -43,6 +43,15 @@ went (call {b = t} {b′ = t′} {c = c} {x = x} d r) w =
       well = (w, k .well);
       endWell = k .endWell;
     }
+
+-- what a call hands back has its cells, and so has the last table of a list with a call in it
+end-whole : {t e : Table} {cs : List Arguments} {xs : List ℕ} {ts : List Table} → Run t cs xs ts e → Whole t → Whole e
+end-whole stop w = w
+end-whole (call d r) w = end-whole r (d .cells)
+
+pub called-whole : {t e : Table} {xs : List ℕ} {ts : List Table} (pre : List Arguments) (a : Arguments) (rest : List Arguments) → Run t (pre ++ a ∷ rest) xs ts e → Whole e
+called-whole [] a rest (call d r) = end-whole r (d .cells)
+called-whole (c ∷ pre) a rest (call d r) = end-whole r (d .cells)
 
 -- a table with no used row
 module _ (t : Table) (none : t .count ≡ 0) where

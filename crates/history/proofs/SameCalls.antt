@@ -26,15 +26,13 @@ use Rattle.header.proofs.Legal.{front-recipients, addressees-legal}
 use Rattle.writer.specs.Writing.{Writing, done, rejected, answered, checking, headerSize, fieldsFault, faultOf}
 use Rattle.writer.proofs.Valid.{valid-parts}
 use Rattle.roundtrip.proofs.SameRecords.{same-checking}
-use Rattle.order.specs.Values.{addressOf, keyOf}
+use Rattle.order.specs.Values.{addressOf, keyOf, keyFault}
 use Rattle.order.specs.Calls.{Deed, post, receipt, release}
-use Rattle.order.specs.Requests.{anyOf}
+use Rattle.order.specs.Requests.{anyOf, askOf}
 use Rattle.order.specs.declared.Key.{Key as DeclaredKey}
-use Rattle.table.specs.Rows.{askOf}
-use Rattle.table.specs.WellFormed.{keyFault}
-use Rattle.pending.specs.Arguments.{posting, receiving, releasing, hasBlock, blockAt, asks, recipientsOf, someRecipient, oneRecipient, firstRecipient, postingKey, receiptKey, postingFault, receiptFault, named, callOf}
-use Rattle.pending.proofs.Legal.{front-originator}
-use Rattle.pending.proofs.Names.{Posts, posts, Answers, answers}
+use Rattle.arguments.specs.Arguments.{posting, receiving, releasing, hasBlock, blockAt, asks, recipientsOf, someRecipient, oneRecipient, firstRecipient, postingKey, receiptKey, postingFault, receiptFault, named, callOf}
+use Rattle.arguments.proofs.Legal.{front-originator}
+use Rattle.arguments.proofs.Names.{Posts, posts, Answers, answers}
 use Rattle.history.specs.SameTable.{sameKey}
 use Rattle.history.proofs.SameKeys.{and-same, key-check, address-same, key-same}
 

@@ -26,9 +26,8 @@ use Rattle.header.specs.declared.Address.{Address as DeclaredAddress}
 use Rattle.header.specs.declared.Stamp.{Stamp}
 use Rattle.header.proofs.Lawful.{address-lawful, stamp-lawful}
 use Rattle.header.proofs.Same.{address-agrees, stamp-agrees}
-use Rattle.order.specs.Values.{urn, name, addressOf, keyOf, optionOf}
+use Rattle.order.specs.Values.{urn, name, addressOf, keyOf, optionOf, keyFault}
 use Rattle.order.specs.declared.Key.{Key as DeclaredKey}
-use Rattle.table.specs.WellFormed.{keyFault}
 use Rattle.table.proofs.Parts.{and-both}
 use Rattle.history.specs.SameTable.{sameKey}
 

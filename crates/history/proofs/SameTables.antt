@@ -15,19 +15,20 @@ use Rattle.codec.proofs.ListLaws.{length-map}
 use Rattle.header.specs.Table.{address}
 use Rattle.header.specs.Rules.{all}
 use Rattle.header.specs.declared.Requests.{Requests}
-use Rattle.order.specs.Values.{Address, addressOf, Key, keyOf, byAddress, byKey}
+use Rattle.order.specs.Values.{Address, addressOf, Key, keyOf, byAddress, byKey, keyFault}
 use Rattle.order.specs.Calls.{board}
-use Rattle.table.specs.Rows.{codeOf, markOf, askOf, recipientOf, usedRecipients, rowOf, usedRows, see}
-use Rattle.table.specs.WellFormed.{keyFault, increasing, recipientFine, rowFine, wellFormed}
+use Rattle.order.specs.Requests.{askOf}
+use Rattle.table.specs.Rows.{codeOf, markOf, recipientOf, usedRecipients, rowOf, usedRows, see, WholeRows, Whole}
+use Rattle.table.specs.WellFormed.{increasing, recipientFine, rowFine, wellFormed}
 use Rattle.table.specs.declared.Recipient.{Recipient}
 use Rattle.table.specs.declared.Row.{Row}
 use Rattle.table.specs.declared.Table.{Table}
 use Rattle.table.proofs.Parts.{and-both, fine-table, fine-row}
-use Rattle.pending.specs.Arguments.{Arguments, callOf}
+use Rattle.arguments.specs.Arguments.{Arguments, callOf}
 use Rattle.pending.specs.Calls.{answerOn, rowsAfter}
 use Rattle.listing.specs.Listing.{Listing, rejected, listingOf, listing, outputAfter}
 use Rattle.history.specs.History.{tableListing}
-use Rattle.history.specs.SameTable.{sameRecipient, sameRow, SameTable, WholeRows, Whole}
+use Rattle.history.specs.SameTable.{sameRecipient, sameRow, SameTable}
 use Rattle.history.proofs.SameKeys.{and-same, address-check, key-check, address-same, key-same, address-told, key-told}
 
 -- ---- recipients

@@ -9,8 +9,8 @@ use Rattle.order.specs.Values.{Address, Key}
 use Rattle.order.specs.Runs.{Ran}
 use Rattle.table.specs.Rows.{see}
 use Rattle.table.specs.declared.Table.{Table}
-use Rattle.pending.specs.Arguments.{Arguments, posting, receiving, releasing, message, answerer}
-use Rattle.pending.specs.Sheet.{Sheet, inKeyOrder}
+use Rattle.arguments.specs.Arguments.{Arguments, posting, receiving, releasing, message, answerer}
+use Rattle.history.specs.Sheet.{Sheet, inKeyOrder}
 use Rattle.pending.specs.Calls.{Did}
 use Rattle.listing.specs.Listing.{Listing, listing, listingOf, outputAfter}
 

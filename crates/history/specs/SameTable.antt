@@ -3,8 +3,7 @@
 -- the arrays of the declared types always have their 32, 16 or 64.)
 use Prim.Native.Nat.{ℕ}
 use mathlib.Core.Path.{_≡_}
-use mathlib.Core.List.{List, [], _∷_, Forall₂}
-use lib.ListN.{length}
+use mathlib.Core.List.{Forall₂}
 use Rattle.codec.specs.Same.{_and_, sameArray}
 use Rattle.header.specs.Same.{sameAddress, sameStamp, Same}
 use Rattle.header.specs.declared.Header.{Header}
@@ -12,7 +11,7 @@ use Rattle.order.specs.declared.Key.{Key}
 use Rattle.table.specs.declared.Recipient.{Recipient}
 use Rattle.table.specs.declared.Row.{Row}
 use Rattle.table.specs.declared.Table.{Table}
-use Rattle.pending.specs.Arguments.{Arguments, posting, receiving, releasing}
+use Rattle.arguments.specs.Arguments.{Arguments, posting, receiving, releasing}
 
 unfoldable pub sameKey : Key → Key → Type 0
 sameKey x y = sameAddress (x .address) (y .address) and sameStamp (x .stamp) (y .stamp)
@@ -28,18 +27,6 @@ sameRow x y = sameKey (x .key) (y .key) and x .asked ≡ y .asked and sameArray 
 -- the used rows are the same, one by one
 unfoldable pub SameTable : Table → Table → Type 0
 SameTable x y = sameArray (Forall₂ sameRow) (x .rows, x .count) (y .rows, y .count)
-
--- the arrays have their cells. (Every array of a declared type has them, a list of this logic need not.)
-abbrev pub WholeRows : List Row → Type 0
-WholeRows [] = Unit {0}
-WholeRows (r ∷ rs) = (length (r .recipients) ≡ 16) × WholeRows rs
-
-abbrev pub Whole : Table → Type 0
-Whole t = (length (t .rows) ≡ 32) × WholeRows (t .rows)
-
-abbrev pub AllWhole : List Table → Type 0
-AllWhole [] = Unit {0}
-AllWhole (t ∷ ts) = Whole t × AllWhole ts
 
 -- the same arguments: the same record with the same block number and count of user data; or the same key
 pub data SameArguments : Arguments → Arguments → Type 0 where

@@ -1,9 +1,9 @@
 // What a call answered, printed.
+use arguments::Answer;
+use arguments::PendingFault;
 use codec::Fault;
 use libc::STDOUT_FILENO;
 use listing::ListingFault;
-use pending::Answer;
-use pending::PendingFault;
 
 pub fn print(text: &[u8]) {
     io::write_all(STDOUT_FILENO, text);

@@ -13,7 +13,7 @@ use Rattle.order.specs.Calls.{Rows, board}
 use Rattle.table.specs.Rows.{see}
 use Rattle.table.specs.WellFormed.{wellFormed}
 use Rattle.table.specs.declared.Table.{Table}
-use Rattle.pending.specs.Arguments.{Arguments, posting, receiving, blockAt, callOf}
+use Rattle.arguments.specs.Arguments.{Arguments, posting, receiving, blockAt, callOf}
 use Rattle.pending.specs.Calls.{Did, rowsAfter}
 use Rattle.reader.specs.Reading.{Reading, accepted, rejected, reading, userData}
 use Rattle.reader.specs.Told.{Told, told, toTell, outcomeDone}

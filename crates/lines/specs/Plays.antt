@@ -9,7 +9,7 @@ use Rattle.order.specs.Calls.{Rows, board}
 use Rattle.table.specs.Rows.{see}
 use Rattle.table.specs.WellFormed.{wellFormed}
 use Rattle.table.specs.declared.Table.{Table}
-use Rattle.pending.specs.Arguments.{Arguments, posting, receiving, blockAt, callOf}
+use Rattle.arguments.specs.Arguments.{Arguments, posting, receiving, blockAt, callOf}
 use Rattle.pending.specs.Calls.{rowsAfter}
 use Rattle.reader.specs.Reading.{Reading, accepted, rejected, reading, userData}
 

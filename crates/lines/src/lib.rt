@@ -5,7 +5,7 @@ ghost use Prim.Native.Nat.{_*_, _+_, _≤_};
 ghost use lib.ListN.{length};
 ghost use Rattle.table.specs.Rows.{see};
 ghost use Rattle.table.specs.WellFormed.{wellFormed};
-ghost use Rattle.pending.specs.Arguments.{blockAt};
+ghost use Rattle.arguments.specs.Arguments.{blockAt};
 ghost use Rattle.lines.specs.Lines.{valueOf, allDigits, octetsIn, isLine, octetsOf, toTell, told, outputAfter};
 ghost use Rattle.lines.specs.Plays.{Plays, turn, rowsOf, played};
 use bits::OctetSize;

@@ -21,7 +21,8 @@ use Rattle.header.specs.Table.{address, stamp, maybe, unitName}
 use Rattle.header.specs.declared.Address.{Address}
 use Rattle.header.specs.declared.Requests.{Requests}
 use Rattle.order.specs.Values.{addressOf, optionOf}
-use Rattle.table.specs.Rows.{codeOf, askOf, recipientOf, usedRecipients, rowOf, usedRows, see}
+use Rattle.order.specs.Requests.{askOf}
+use Rattle.table.specs.Rows.{codeOf, recipientOf, usedRecipients, rowOf, usedRows, see}
 use Rattle.table.specs.WellFormed.{recipientFine, rowFine, wellFormed}
 use Rattle.table.specs.declared.Recipient.{Recipient}
 use Rattle.table.specs.declared.Row.{Row}

@@ -16,7 +16,8 @@ use Rattle.header.specs.declared.Address.{Address}
 use Rattle.header.specs.declared.Requests.{Requests}
 use Rattle.order.specs.Values.{addressOf, optionOf, keyOf}
 use Rattle.order.specs.declared.Key.{Key}
-use Rattle.table.specs.Rows.{codeOf, markOf, askOf, recipientOf, usedRecipients, rowOf}
+use Rattle.order.specs.Requests.{askOf}
+use Rattle.table.specs.Rows.{codeOf, markOf, recipientOf, usedRecipients, rowOf}
 use Rattle.table.specs.declared.Recipient.{Recipient}
 use Rattle.table.specs.declared.Row.{Row}
 use Rattle.listing.specs.Text.{digit, decimal, hexDigit, escaped, characters, addressText, dtgText, extensionText, askedText, asked, keyLine, codeText, requestText, recipientLine, recipientLines, rowText, countLine}

@@ -4,7 +4,8 @@ use mathlib.Core.List.{List, _∷_, _++_}
 use Rattle.header.specs.declared.Requests.{Requests}
 use Rattle.order.specs.Values.{addressOf, optionOf, keyOf}
 use Rattle.order.specs.declared.Key.{Key}
-use Rattle.table.specs.Rows.{codeOf, recipientOf, askOf}
+use Rattle.order.specs.Requests.{askOf}
+use Rattle.table.specs.Rows.{codeOf, recipientOf}
 use Rattle.table.specs.declared.Recipient.{Recipient}
 use Rattle.listing.specs.Text.{addressText, dtgText, extensionText, requestText, recipientLine}
 

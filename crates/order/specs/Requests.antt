@@ -5,6 +5,7 @@ use mathlib.Core.Bool.{Bool, false, cond, not, _&&_, _||_}
 use mathlib.Core.Option.{Option, none, some}
 use Prim.Native.Nat.{ℕ}
 use lib.Dec.{T, eqb}
+use Rattle.header.specs.declared.Requests.{Requests}
 
 -- one thing for each request
 pub record PerRequest (X : Type 0) : Type 0 where
@@ -15,6 +16,10 @@ pub record PerRequest (X : Type 0) : Type 0 where
 -- which requests are asked
 abbrev pub Ask : Type 0
 Ask = PerRequest Bool
+
+-- those of G7
+unfoldable pub askOf : Requests → Ask
+askOf a = record { machine = a .machine; acknowledge = a .acknowledge; reply = a .reply }
 
 -- at one recipient: a code or nothing for each request
 abbrev pub Mark : Type 0

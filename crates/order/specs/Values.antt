@@ -4,8 +4,10 @@ use mathlib.Core.Option.{Option, none, some}
 use mathlib.Core.Bool.{cond}
 use mathlib.Core.Logic.{_⊎_, inl, inr}
 use Prim.Native.Nat.{ℕ, Ordering, Ordering·lt as lt, Ordering·eq as eq, Ordering·gt as gt}
+use Rattle.codec.specs.Codec.{first}
 use Rattle.optional.specs.declared.OptionalNumber.{OptionalNumber}
 use Rattle.text.specs.Texts.{charsOf}
+use Rattle.header.specs.Table.{address, stamp}
 use Rattle.header.specs.declared.Address.{Address as DeclaredAddress}
 use Rattle.header.specs.declared.Dtg.{Dtg}
 use Rattle.header.specs.declared.Stamp.{Stamp}
@@ -88,3 +90,7 @@ keyOf k = let d = k .stamp .dtg .date in let t = k .stamp .dtg .time in
       second = t .second;
       extension = optionOf (k .stamp .extension);
     }
+
+-- the first refusal of a key, in the writer's order: address, DTG, extension; 0 for none
+abbrev pub keyFault : DeclaredKey → ℕ
+keyFault k = first (address .check (k .address)) (stamp .check (k .stamp))

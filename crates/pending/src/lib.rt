@@ -1,16 +1,16 @@
 // Posting, receipt and release on the table of pending messages.
 ghost use mathlib.Core.Path.{_≡_};
-ghost use Rattle.pending.specs.Arguments.{posting, receiving, releasing};
+ghost use Rattle.arguments.specs.Arguments.{posting, receiving, releasing};
 ghost use Rattle.pending.specs.Calls.{Did};
-ghost use Rattle.pending.specs.Told.{pendingNo, answerNo, answerPlace};
+ghost use Rattle.arguments.specs.Told.{pendingNo, answerNo, answerPlace};
+use arguments::Answer;
+use arguments::PendingFault;
 use arguments::by_check;
 use arguments::check_posting;
 use arguments::check_receipt;
 use arguments::refusal;
-use bits::BitPlace;
 use bits::OctetSize;
 use codec::Check;
-use codec::Fault;
 use header::Address;
 use header::Header;
 use header::Stamp;
@@ -23,31 +23,8 @@ use table::rows::replace_row;
 use table::well::check_key;
 use table::well::well_formed;
 
-pub mod arguments;
 pub mod row;
 pub mod settled;
-
-// Why a call is refused. The record's own faults, and a key's, are the writer's.
-pub enum PendingFault {
-    Record(Fault),
-    NothingAsked,
-    NoRecipient,
-    KeyHeld,
-    TableFull,
-    NoResponse,
-    NotOneRecipient,
-    NoRow,
-    NotARecipient,
-    NothingOpen,
-    NoBlock,
-    IllFormed,
-}
-
-// The answer of a call: done, or refused with the kind of fault and the place, which is always 0.
-pub enum Answer {
-    Done,
-    Refused(PendingFault, BitPlace),
-}
 
 // The answer, and the table afterwards; refused, the table as it came.
 pub struct TableAfter {
@@ -109,10 +86,10 @@ pub fn post(t: Table, h: Header, number: u32, count: OctetSize) -> TableAfter
         block.times.requests.requests,
         h.front.recipients.addresses,
     );
-    let after = insert_row(t, place.at, row);
+    let posted = insert_row(t, place.at, row);
     TableAfter {
         answer: Answer::Done,
-        table: after,
+        table: posted,
     }
 }
 

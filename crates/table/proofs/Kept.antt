@@ -10,12 +10,12 @@ use native.Mathlib.Omega.{arith}
 use Rattle.header.specs.Rules.{all}
 use Rattle.header.specs.declared.Requests.{Requests}
 use Rattle.order.specs.Keyed.{InOrder}
-use Rattle.order.specs.Values.{addressOf, Key, keyOf, byAddress, byKey}
+use Rattle.order.specs.Values.{addressOf, Key, keyOf, byAddress, byKey, keyFault}
 use Rattle.order.proofs.Orders.{Order, by-address, by-key}
 use Rattle.order.proofs.Keyed.{sorted, put-in-order}
 use Rattle.table.specs.Rows.{recipientOf, usedRecipients, rowOf, usedRows}
 use Rattle.table.specs.Search.{Stopped, keysOf, addressesOf}
-use Rattle.table.specs.WellFormed.{keyFault, increasing, recipientFine, rowFine, wellFormed}
+use Rattle.table.specs.WellFormed.{increasing, recipientFine, rowFine, wellFormed}
 use Rattle.table.specs.declared.Recipient.{Recipient}
 use Rattle.table.specs.declared.Row.{Row}
 use Rattle.table.specs.declared.Table.{Table}

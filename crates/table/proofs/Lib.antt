@@ -3,6 +3,7 @@ pub mod InOrder
 pub mod Search
 pub mod Moves
 pub mod Kept
+pub mod Whole
 mod Told
 mod Tests
 mod Shift

@@ -8,10 +8,10 @@ use lib.Seq.{getD-take, length-take-le}
 use borrow.Author.Tests.{leb-true, le-leb, eqb-true, eq-eqb}
 use native.Mathlib.Omega.{arith}
 use Rattle.header.specs.Rules.{all}
-use Rattle.order.specs.Values.{byAddress, byKey}
+use Rattle.order.specs.Values.{byAddress, byKey, keyFault}
 use Rattle.table.specs.Rows.{usedRecipients, usedRows}
 use Rattle.table.specs.Search.{keysOf, addressesOf}
-use Rattle.table.specs.WellFormed.{keyFault, increasing, recipientFine, rowFine, wellFormed}
+use Rattle.table.specs.WellFormed.{increasing, recipientFine, rowFine, wellFormed}
 use Rattle.table.specs.declared.Row.{Row}
 use Rattle.table.specs.declared.Table.{Table}
 

@@ -1,13 +1,13 @@
 -- What a table means: the list of its used rows.
 use Prim.Native.Nat.{ℕ}
+use mathlib.Core.Path.{_≡_}
 use mathlib.Core.Bool.{cond}
-use mathlib.Core.List.{List, map}
+use mathlib.Core.List.{List, [], _∷_, map}
 use mathlib.Core.Option.{Option, none, some}
-use lib.ListN.{take}
+use lib.ListN.{length, take}
 use lib.Dec.{eqb}
-use Rattle.header.specs.declared.Requests.{Requests}
 use Rattle.order.specs.Values.{Address, addressOf, Key, keyOf}
-use Rattle.order.specs.Requests.{PerRequest, Ask, Mark}
+use Rattle.order.specs.Requests.{Ask, Mark, askOf}
 use Rattle.order.specs.Calls.{Rows}
 use Rattle.table.specs.declared.Recipient.{Recipient}
 use Rattle.table.specs.declared.Row.{Row}
@@ -19,9 +19,6 @@ codeOf n = cond (eqb n 0) none (some n)
 
 unfoldable pub markOf : Recipient → Mark
 markOf r = record { machine = codeOf (r .machine); acknowledge = codeOf (r .acknowledge); reply = codeOf (r .reply) }
-
-unfoldable pub askOf : Requests → Ask
-askOf a = record { machine = a .machine; acknowledge = a .acknowledge; reply = a .reply }
 
 abbrev pub recipientOf : Recipient → Address × Mark
 recipientOf r = (addressOf (r .address), markOf r)
@@ -38,3 +35,11 @@ usedRows t = take (t .count) (t .rows)
 -- the rows of a table
 unfoldable pub see : Table → Rows
 see t = map rowOf (usedRows t)
+
+-- the arrays have their cells. (Every table of the declared type has them, a record of this logic need not.)
+abbrev pub WholeRows : List Row → Type 0
+WholeRows [] = Unit {0}
+WholeRows (r ∷ rs) = (length (r .recipients) ≡ 16) × WholeRows rs
+
+abbrev pub Whole : Table → Type 0
+Whole t = (length (t .rows) ≡ 32) × WholeRows (t .rows)

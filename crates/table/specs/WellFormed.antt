@@ -4,22 +4,16 @@ use Prim.Native.Nat.{ℕ, Ordering, Ordering·lt as lt, Ordering·eq as eq, Orde
 use mathlib.Core.Bool.{Bool, true, false, not, _&&_, _||_}
 use mathlib.Core.List.{List, [], _∷_, map}
 use lib.Dec.{leb, eqb}
-use Rattle.codec.specs.Codec.{first}
-use Rattle.header.specs.Table.{address, stamp}
+use Rattle.header.specs.Table.{address}
 use Rattle.header.specs.Rules.{_⇒_, all}
 use Rattle.header.specs.declared.Requests.{Requests}
 use Rattle.order.specs.Order.{choose}
-use Rattle.order.specs.Values.{addressOf, keyOf, byAddress, byKey}
+use Rattle.order.specs.Values.{addressOf, keyOf, keyFault, byAddress, byKey}
 use Rattle.order.specs.Requests.{answeredBy}
-use Rattle.order.specs.declared.Key.{Key}
 use Rattle.table.specs.Rows.{usedRecipients, usedRows}
 use Rattle.table.specs.declared.Recipient.{Recipient}
 use Rattle.table.specs.declared.Row.{Row}
 use Rattle.table.specs.declared.Table.{Table}
-
--- the first refusal of a key, in the writer's order: address, DTG, extension; 0 for none
-abbrev pub keyFault : Key → ℕ
-keyFault k = first (address .check (k .address)) (stamp .check (k .stamp))
 
 -- strictly in order: each comes before the next
 unfoldable pub increasing : {A : Type 0} → (A → A → Ordering) → List A → Bool

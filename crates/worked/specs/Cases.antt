@@ -14,8 +14,8 @@ use Rattle.header.specs.declared.Header.{Header}
 use Rattle.reader.specs.Reading.{Reading, accepted, rejected, reading, userData}
 use Rattle.order.specs.Calls.{board}
 use Rattle.order.specs.Runs.{answers}
-use Rattle.pending.specs.Arguments.{Arguments, posting, receiving, callOf}
-use Rattle.pending.specs.Sheet.{sheet}
+use Rattle.arguments.specs.Arguments.{Arguments, posting, receiving, callOf}
+use Rattle.history.specs.Sheet.{sheet}
 use Rattle.writer.specs.Writing as Writing
 use Rattle.writer.specs.Writing.{Writing, done, writing, outputAfter}
 

@@ -17,6 +17,7 @@ struct Line {
     octets: Option<usize>,
     proved: f64,
     fast: f64,
+    words: Option<f64>,
     by_value: Option<f64>,
 }
 
@@ -25,16 +26,19 @@ fn rate(octets: Option<usize>, nanoseconds: f64) -> String {
     octets.map_or("-".to_string(), |n| format!("{:.1}", n as f64 * 1000.0 / nanoseconds))
 }
 
+/// Two cells of a line: a side's nanoseconds, and how many times as long the proved call takes.
+fn beside(proved: f64, side: Option<f64>) -> String {
+    side.map_or("- | -".to_string(), |ns| format!("{ns:.0} | {:.1}", proved / ns))
+}
+
 fn print(line: &Line) {
-    let Line { name, octets, proved, fast, by_value } = line;
+    let Line { name, octets, proved, fast, words, by_value } = line;
     let count = octets.map_or("-".to_string(), |n| n.to_string());
-    let (copied, ratio) = match by_value {
-        Some(ns) => (format!("{ns:.0}"), format!("{:.1}", proved / ns)),
-        None => ("-".to_string(), "-".to_string()),
-    };
     println!(
-        "| {name} | {count} | {proved:.0} | {fast:.0} | {:.1} | {copied} | {ratio} | {} | {} |",
-        proved / fast,
+        "| {name} | {count} | {proved:.0} | {} | {} | {} | {} | {} |",
+        beside(*proved, Some(*fast)),
+        beside(*proved, *words),
+        beside(*proved, *by_value),
         rate(*octets, *proved),
         rate(*octets, *fast),
     );
@@ -45,35 +49,49 @@ fn batch(octets: usize) -> usize {
     (2000 / octets).clamp(4, 64)
 }
 
-fn compared<'a>(name: &str, sample: &Sample, proved: Turn<'a>, fast: Turn<'a>) -> Line {
-    let times = by_turns(RUNS, &mut [proved, fast]);
-    let name = format!("{name}, {}", sample.name);
-    Line { name, octets: Some(sample.octets), proved: times[0], fast: times[1], by_value: None }
+/// The sides of a call on a sample: proved, fast, and words where the call goes over bits.
+fn compared(name: &str, sample: &Sample, sides: &mut [Turn]) -> Line {
+    let times = by_turns(RUNS, sides);
+    Line {
+        name: format!("{name}, {}", sample.name),
+        octets: Some(sample.octets),
+        proved: times[0],
+        fast: times[1],
+        words: times.get(2).copied(),
+        by_value: None,
+    }
+}
+
+fn fast_reading(s: &Sample, read: fast::Read) -> Turn<'_> {
+    let mut record = Box::new(fast::NO_HEADER);
+    repeated(batch(s.octets), move || {
+        black_box(&read(black_box(&s.datagram), black_box(&mut record)));
+    })
 }
 
 fn reading(s: &Sample) -> Line {
-    let times = batch(s.octets);
-    let mut record = Box::new(fast::NO_HEADER);
-    let proved = repeated(times, || {
+    let proved = repeated(batch(s.octets), || {
         // By reference: handing over the answer itself would copy it once more.
         black_box(&pruvelaccio::read(black_box(&s.datagram)));
     });
-    let fast = repeated(times, || {
-        black_box(&fast::read(black_box(&s.datagram), black_box(&mut record)));
-    });
-    compared("read", s, proved, fast)
+    let (fast, words) = (fast_reading(s, fast::read), fast_reading(s, fast::by_words::read));
+    compared("read", s, &mut [proved, fast, words])
+}
+
+fn fast_writing(s: &Sample, write: fast::Write) -> Turn<'_> {
+    let mut out = vec![0; 8192];
+    repeated(batch(s.octets), move || {
+        black_box(&write(black_box(&s.header), s.count, black_box(&mut out)));
+    })
 }
 
 fn writing(s: &Sample) -> Line {
-    let times = batch(s.octets);
-    let (mut one, mut two) = (vec![0; 8192], vec![0; 8192]);
-    let proved = repeated(times, || {
-        black_box(&pruvelaccio::write(black_box(&s.header), s.count, black_box(&mut one)));
+    let mut out = vec![0; 8192];
+    let proved = repeated(batch(s.octets), move || {
+        black_box(&pruvelaccio::write(black_box(&s.header), s.count, black_box(&mut out)));
     });
-    let fast = repeated(times, || {
-        black_box(&fast::write(black_box(&s.header), s.count, black_box(&mut two)));
-    });
-    compared("write", s, proved, fast)
+    let (fast, words) = (fast_writing(s, fast::write), fast_writing(s, fast::by_words::write));
+    compared("write", s, &mut [proved, fast, words])
 }
 
 fn checking(s: &Sample) -> Line {
@@ -84,7 +102,7 @@ fn checking(s: &Sample) -> Line {
     let fast = repeated(times, || {
         black_box(&fast::check(black_box(&s.header), s.count));
     });
-    compared("check", s, proved, fast)
+    compared("check", s, &mut [proved, fast])
 }
 
 /// A side of a table call: some tables are put back, then one call on each is timed. One table alone would be too
@@ -115,7 +133,8 @@ fn changing(name: &str, base: &Table, call: &Call) -> Line {
     ];
     let times = by_turns(TABLE_RUNS, &mut sides);
     let name = name.to_string();
-    Line { name, octets: None, proved: times[0], fast: times[1], by_value: Some(times[2]) }
+    let (proved, fast, by_value) = (times[0], times[1], Some(times[2]));
+    Line { name, octets: None, proved, fast, words: None, by_value }
 }
 
 /// All rows of a table's listing, row 0 first: the octets.
@@ -136,7 +155,8 @@ fn listing(t: &Table) -> Line {
     });
     let times = by_turns(51, &mut [proved, fast]);
     let name = format!("listing, {} rows", t.count);
-    Line { name, octets: Some(octets), proved: times[0], fast: times[1], by_value: None }
+    let (proved, fast) = (times[0], times[1]);
+    Line { name, octets: Some(octets), proved, fast, words: None, by_value: None }
 }
 
 fn table_calls(post: &Sample, large: &Sample) -> Vec<Line> {
@@ -172,8 +192,9 @@ fn explain(list: &[Sample]) {
          not cleared between runs. The tables are put back outside the time."
     );
     println!(
-        "proved: the wrapper's call, structs by value. fast: safe Rust by reference, the table changed in place. by \
-         value: fast behind the exported signature, record and table copied in, the table copied out and stored.\n"
+        "proved: the wrapper's call, structs by value. fast: safe Rust by reference, fields by octet fragments as the \
+         proved code takes them, the table changed in place. words: fast with fields out of 64-bit words. by value: \
+         fast behind the exported signature, record and table copied in, the table copied out and stored.\n"
     );
 }
 
@@ -181,8 +202,10 @@ pub fn run() {
     let list =
         [samples::small(), samples::typical(), samples::largest(), samples::largest_posting()];
     explain(&list);
-    println!("| ns a call | octets | proved | fast | ratio | by value | ratio | proved MB/s | fast MB/s |");
-    println!("|---|---|---|---|---|---|---|---|---|");
+    println!(
+        "| ns a call | octets | proved | fast | ratio | words | ratio | by value | ratio | proved MB/s | fast MB/s |"
+    );
+    println!("|---|---|---|---|---|---|---|---|---|---|---|");
     let heads = &list[..3];
     heads.iter().for_each(|s| print(&reading(s)));
     heads.iter().for_each(|s| print(&writing(s)));

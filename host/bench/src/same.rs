@@ -1,5 +1,5 @@
 //! The proved calls and the fast ones agree: number, place, record, octets, table and listing, on every input that is
-//! measured and on random ones.
+//! measured and on random ones. Fast reading and writing are held against the proved ones by fragments and by words.
 
 use crate::cells::{all_cells, used_cells};
 use crate::draft;
@@ -49,10 +49,10 @@ impl Call<'_> {
     }
 }
 
-/// What was compared so far, and the refusals met. The record that the fast readings fill is used again and again,
-/// so that it always holds old cells.
+/// What was compared so far, and the refusals met. The records that the fast readings fill, by fragments and by words,
+/// are used again and again, so that they always hold old cells.
 struct Compared {
-    record: Box<Header>,
+    filled: [Box<Header>; 2],
     datagrams: usize,
     records: usize,
     calls: usize,
@@ -66,24 +66,31 @@ impl Compared {
 
     fn reading(&mut self, datagram: &[u8]) {
         let proved = pruvelaccio::read(datagram);
-        let fast = fast::read(datagram, &mut self.record);
-        assert_eq!(proved.as_ref().map(|r| r.length), fast.as_ref().copied());
-        if let Ok(read) = &proved {
-            assert_eq!(all_cells(&read.header), all_cells(&self.record));
+        let ways: [fast::Read; 2] = [fast::read, fast::by_words::read];
+        for (fast_read, record) in ways.iter().zip(&mut self.filled) {
+            let fast = fast_read(datagram, record);
+            assert_eq!(proved.as_ref().map(|r| r.length), fast.as_ref().copied());
+            if let Ok(read) = &proved {
+                assert_eq!(all_cells(&read.header), all_cells(record));
+            }
         }
-        let start = fast.unwrap_or(datagram.len());
+        let start = proved.as_ref().map_or(datagram.len(), |r| r.length);
         assert_eq!(pruvelaccio::user_data(datagram), &datagram[start..]);
         self.datagrams += 1;
         self.note(&proved);
     }
 
-    /// The check, and writing into outputs of the same length and content.
+    /// The check, and writing by fragments and by words into outputs of the same length and content.
     fn writing(&mut self, h: &Header, count: usize, room: usize) -> Result<usize, Refusal> {
         assert_eq!(pruvelaccio::check(h, count), fast::check(h, count));
-        let (mut one, mut two) = (vec![0xa5; room], vec![0xa5; room]);
+        let mut one = vec![0xa5; room];
         let written = pruvelaccio::write(h, count, &mut one);
-        assert_eq!(written, fast::write(h, count, &mut two));
-        assert_eq!(one, two);
+        let ways: [fast::Write; 2] = [fast::write, fast::by_words::write];
+        for fast_write in ways {
+            let mut two = vec![0xa5; room];
+            assert_eq!(written, fast_write(h, count, &mut two));
+            assert_eq!(one, two);
+        }
         self.records += 1;
         self.note(&written);
         written
@@ -229,8 +236,8 @@ fn random_table(compared: &mut Compared, random: &mut Random) {
 /// Asserts that all agree and that every refusal was met, and says over how many inputs.
 pub fn run() {
     let mut random = Random(0x2045_4700_1c00_0002);
-    let record = Box::new(fast::NO_HEADER);
-    let mut compared = Compared { record, datagrams: 0, records: 0, calls: 0, met: Vec::new() };
+    let filled = [Box::new(fast::NO_HEADER), Box::new(fast::NO_HEADER)];
+    let mut compared = Compared { filled, datagrams: 0, records: 0, calls: 0, met: Vec::new() };
     measured(&mut compared);
     longest(&mut compared);
     (0..RECORDS).for_each(|_| random_record(&mut compared, &mut random));
@@ -239,8 +246,8 @@ pub fn run() {
         assert!(compared.met.contains(&number), "refusal {number} was not met");
     }
     println!(
-        "proved and fast agree on {} records, {} datagrams and {} calls on tables, measured and random ones; every \
-         refusal was met",
+        "proved and fast, by fragments and by words, agree on {} records, {} datagrams and {} calls on tables, \
+         measured and random ones; every refusal was met",
         compared.records, compared.datagrams, compared.calls
     );
 }

@@ -1,7 +1,7 @@
 -- `gateway::pruvelaccio_check_value` meets its contract. Assumes nothing.
 use borrow.Author.Needs.{needs}
 use mathlib.Core.Path.{ap, _∙_}
-use Rattle.gateway.specs.Numbers.{writeNumbers}
+use Rattle.answers.specs.Numbers.{writeNumbers}
 use Rattle.gateway.proofs.pruvelaccio_check_value.Statement.{statement}
 use Rattle.gateway.proofs.pruvelaccio_check_value.Tie as tie
 

@@ -1,7 +1,7 @@
 -- `gateway::pruvelaccio_list_row_value` meets its contract. Assumes nothing.
 use borrow.Author.Needs.{needs}
 use mathlib.Core.Path.{ap, _∙_}
-use Rattle.gateway.specs.Numbers.{listNumbers}
+use Rattle.answers.specs.Numbers.{listNumbers}
 use Rattle.gateway.proofs.pruvelaccio_list_row_value.Statement.{statement}
 use Rattle.gateway.proofs.pruvelaccio_list_row_value.Tie as tie
 

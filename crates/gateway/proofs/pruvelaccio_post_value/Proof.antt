@@ -1,6 +1,6 @@
 -- `gateway::pruvelaccio_post_value` meets its contract. Assumes nothing.
 use borrow.Author.Needs.{needs}
-use Rattle.gateway.proofs.Numbered.{numbered}
+use Rattle.answers.proofs.Numbered.{numbered}
 use Rattle.gateway.proofs.pruvelaccio_post_value.Statement.{statement}
 use Rattle.gateway.proofs.pruvelaccio_post_value.Tie as tie
 

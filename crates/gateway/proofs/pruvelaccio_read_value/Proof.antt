@@ -1,7 +1,7 @@
 -- `gateway::pruvelaccio_read_value` meets its contract. Assumes nothing.
 use borrow.Author.Needs.{needs}
 use mathlib.Core.Path.{ap, _∙_}
-use Rattle.gateway.specs.Numbers.{readNumbers}
+use Rattle.answers.specs.Numbers.{readNumbers}
 use Rattle.gateway.proofs.pruvelaccio_read_value.Statement.{statement}
 use Rattle.gateway.proofs.pruvelaccio_read_value.Tie as tie
 

@@ -1,7 +1,7 @@
 -- `gateway::pruvelaccio_write_value` meets its contract. Assumes nothing.
 use borrow.Author.Needs.{needs}
 use mathlib.Core.Path.{ap, _∙_}
-use Rattle.gateway.specs.Numbers.{writeNumbers}
+use Rattle.answers.specs.Numbers.{writeNumbers}
 use Rattle.gateway.proofs.pruvelaccio_write_value.Statement.{statement}
 use Rattle.gateway.proofs.pruvelaccio_write_value.Tie as tie
 

@@ -1,8 +1,10 @@
 //! From a datagram to the record.
 
 use super::bits_in::BitsIn;
+use super::fragments::Fragments;
 use super::limits::*;
 use super::rules;
+use super::way::Way;
 use super::zero::NO_HEADER;
 use pruvelaccio::*;
 
@@ -10,20 +12,16 @@ use pruvelaccio::*;
 /// refusal what it holds has no meaning.
 #[inline(never)]
 pub fn read(datagram: &[u8], into: &mut Header) -> Result<usize, Refusal> {
+    read_by(Fragments, datagram, into)
+}
+
+/// The same, with bits taken either way.
+pub fn read_by(way: impl Way, datagram: &[u8], into: &mut Header) -> Result<usize, Refusal> {
     if datagram.len() > DATAGRAM {
         return Err(Refusal { number: 12, place: 0 });
     }
     *into = NO_HEADER;
-    if datagram.len() < 8 {
-        let mut padded = [0; 8];
-        padded[..datagram.len()].copy_from_slice(datagram);
-        return read_padded(&padded, datagram.len(), into);
-    }
-    read_padded(datagram, datagram.len(), into)
-}
-
-fn read_padded(padded: &[u8], octets: usize, into: &mut Header) -> Result<usize, Refusal> {
-    let mut bits = BitsIn::new(padded, octets);
+    let mut bits = BitsIn::new(way, datagram);
     front(&mut bits, &mut into.front)?;
     let mut size = OptionalNumber { present: false, value: 0 };
     bits.optional(16, &mut size)?;
@@ -35,13 +33,13 @@ fn read_padded(padded: &[u8], octets: usize, into: &mut Header) -> Result<usize,
         return Err(Refusal { number: 8, place: 0 });
     }
     let told = !size.present || size.value as usize == length;
-    if !told || !rules::sizes_right(&into.blocks, octets - length) {
+    if !told || !rules::sizes_right(&into.blocks, datagram.len() - length) {
         return Err(Refusal { number: 10, place: 0 });
     }
     Ok(length)
 }
 
-fn front(bits: &mut BitsIn, into: &mut Front) -> Result<(), Refusal> {
+fn front(bits: &mut BitsIn<impl Way>, into: &mut Front) -> Result<(), Refusal> {
     into.version = bits.code(4, 2, 2, 2)?;
     if bits.flag()? {
         let value = bits.code(2, 0, 1, 3)?;
@@ -64,7 +62,7 @@ fn front(bits: &mut BitsIn, into: &mut Front) -> Result<(), Refusal> {
     Ok(())
 }
 
-fn address(bits: &mut BitsIn, into: &mut Address) -> Result<(), Refusal> {
+fn address(bits: &mut BitsIn<impl Way>, into: &mut Address) -> Result<(), Refusal> {
     bits.optional(24, &mut into.urn)?;
     // The second indicator is the contrary of the first.
     let due = u32::from(!into.urn.present);
@@ -75,7 +73,11 @@ fn address(bits: &mut BitsIn, into: &mut Address) -> Result<(), Refusal> {
     Ok(())
 }
 
-fn addresses(bits: &mut BitsIn, room: usize, into: &mut Addresses) -> Result<(), Refusal> {
+fn addresses(
+    bits: &mut BitsIn<impl Way>,
+    room: usize,
+    into: &mut Addresses,
+) -> Result<(), Refusal> {
     for (i, entry) in into.list[..room].iter_mut().enumerate() {
         let more = bits.recurs(room - 1 - i)?;
         address(bits, entry)?;
@@ -87,7 +89,7 @@ fn addresses(bits: &mut BitsIn, room: usize, into: &mut Addresses) -> Result<(),
     Ok(())
 }
 
-fn blocks(bits: &mut BitsIn, into: &mut Blocks) -> Result<(), Refusal> {
+fn blocks(bits: &mut BitsIn<impl Way>, into: &mut Blocks) -> Result<(), Refusal> {
     for (i, entry) in into.list.iter_mut().enumerate() {
         let more = bits.recurs(BLOCKS - 1 - i)?;
         block(bits, entry)?;
@@ -99,7 +101,7 @@ fn blocks(bits: &mut BitsIn, into: &mut Blocks) -> Result<(), Refusal> {
     Ok(())
 }
 
-fn block(bits: &mut BitsIn, into: &mut Block) -> Result<(), Refusal> {
+fn block(bits: &mut BitsIn<impl Way>, into: &mut Block) -> Result<(), Refusal> {
     format(bits, &mut into.format)?;
     handling(bits, &mut into.handling)?;
     times(bits, &mut into.times)?;
@@ -114,7 +116,7 @@ fn block(bits: &mut BitsIn, into: &mut Block) -> Result<(), Refusal> {
     bits.zero(7)
 }
 
-fn format(bits: &mut BitsIn, into: &mut Format) -> Result<(), Refusal> {
+fn format(bits: &mut BitsIn<impl Way>, into: &mut Format) -> Result<(), Refusal> {
     into.umf = bits.code(4, 0, 8, 3)?;
     bits.optional(4, &mut into.version)?;
     if bits.flag()? {
@@ -127,7 +129,7 @@ fn format(bits: &mut BitsIn, into: &mut Format) -> Result<(), Refusal> {
     bits.optional_text(FILE_NAME, &mut into.file)
 }
 
-fn handling(bits: &mut BitsIn, into: &mut Handling) -> Result<(), Refusal> {
+fn handling(bits: &mut BitsIn<impl Way>, into: &mut Handling) -> Result<(), Refusal> {
     bits.optional(20, &mut into.size)?;
     into.codes = Codes {
         operation: bits.number(2)?,
@@ -138,7 +140,7 @@ fn handling(bits: &mut BitsIn, into: &mut Handling) -> Result<(), Refusal> {
     bits.optional_text(MARKING, &mut into.marking)
 }
 
-fn times(bits: &mut BitsIn, into: &mut Times) -> Result<(), Refusal> {
+fn times(bits: &mut BitsIn<impl Way>, into: &mut Times) -> Result<(), Refusal> {
     if bits.flag()? {
         into.origin.present = true;
         bits.stamp(&mut into.origin.stamp)?;
@@ -155,7 +157,7 @@ fn times(bits: &mut BitsIn, into: &mut Times) -> Result<(), Refusal> {
     Ok(())
 }
 
-fn response(bits: &mut BitsIn, into: &mut Response) -> Result<(), Refusal> {
+fn response(bits: &mut BitsIn<impl Way>, into: &mut Response) -> Result<(), Refusal> {
     bits.stamp(&mut into.stamp)?;
     into.compliance.code = bits.code(3, 1, 6, 3)?;
     bits.optional(3, &mut into.compliance.cantco)?;
@@ -163,7 +165,7 @@ fn response(bits: &mut BitsIn, into: &mut Response) -> Result<(), Refusal> {
     bits.optional_text(AMPLIFICATION, &mut into.amplification)
 }
 
-fn references(bits: &mut BitsIn, into: &mut References) -> Result<(), Refusal> {
+fn references(bits: &mut BitsIn<impl Way>, into: &mut References) -> Result<(), Refusal> {
     for (i, entry) in into.list.iter_mut().enumerate() {
         let more = bits.recurs(REFERENCES - 1 - i)?;
         address(bits, &mut entry.address)?;

@@ -2,17 +2,24 @@
 
 use super::bits_out::BitsOut;
 use super::check::check;
+use super::fragments::Fragments;
 use super::limits::*;
+use super::way::Way;
 use pruvelaccio::*;
 
 /// Writes a record's header: the octets written. Every refusal is decided before the first of them.
 #[inline(never)]
 pub fn write(h: &Header, count: usize, out: &mut [u8]) -> Result<usize, Refusal> {
+    write_by(Fragments, h, count, out)
+}
+
+/// The same, with bits put either way.
+pub fn write_by(way: impl Way, h: &Header, count: usize, out: &mut [u8]) -> Result<usize, Refusal> {
     let octets = check(h, count)?;
     if out.len() < octets {
         return Err(Refusal { number: 11, place: 0 });
     }
-    let mut bits = BitsOut::new(&mut out[..octets]);
+    let mut bits = BitsOut::new(way, &mut out[..octets]);
     front(&mut bits, &h.front);
     bits.flag(h.sized);
     if h.sized {
@@ -23,7 +30,7 @@ pub fn write(h: &Header, count: usize, out: &mut [u8]) -> Result<usize, Refusal>
     Ok(octets)
 }
 
-fn front(bits: &mut BitsOut, f: &Front) {
+fn front(bits: &mut BitsOut<impl Way>, f: &Front) {
     bits.number(f.version, 4);
     bits.optional(&f.compression, 2);
     bits.flag(f.originator.present);
@@ -34,13 +41,13 @@ fn front(bits: &mut BitsOut, f: &Front) {
     addressees(bits, &f.information);
 }
 
-fn address(bits: &mut BitsOut, a: &Address) {
+fn address(bits: &mut BitsOut<impl Way>, a: &Address) {
     bits.optional(&a.urn, 24);
     bits.optional_text(&a.name, UNIT_NAME);
 }
 
 /// Every entry but the last has the recurrence bit 1.
-fn addressees(bits: &mut BitsOut, g: &OptionalAddresses) {
+fn addressees(bits: &mut BitsOut<impl Way>, g: &OptionalAddresses) {
     bits.flag(g.present);
     if !g.present {
         return;
@@ -52,7 +59,7 @@ fn addressees(bits: &mut BitsOut, g: &OptionalAddresses) {
     }
 }
 
-fn blocks(bits: &mut BitsOut, g: &Blocks) {
+fn blocks(bits: &mut BitsOut<impl Way>, g: &Blocks) {
     let list = &g.list[..g.count as usize];
     for (i, entry) in list.iter().enumerate() {
         bits.flag(i + 1 < list.len());
@@ -61,7 +68,7 @@ fn blocks(bits: &mut BitsOut, g: &Blocks) {
 }
 
 /// The last bit is G10's presence.
-fn block(bits: &mut BitsOut, b: &Block) {
+fn block(bits: &mut BitsOut<impl Way>, b: &Block) {
     format(bits, &b.format);
     handling(bits, &b.handling);
     times(bits, &b.times);
@@ -76,7 +83,7 @@ fn block(bits: &mut BitsOut, b: &Block) {
     bits.flag(false);
 }
 
-fn format(bits: &mut BitsOut, f: &Format) {
+fn format(bits: &mut BitsOut<impl Way>, f: &Format) {
     bits.number(f.umf, 4);
     bits.optional(&f.version, 4);
     bits.flag(f.identity.present);
@@ -88,7 +95,7 @@ fn format(bits: &mut BitsOut, f: &Format) {
     bits.optional_text(&f.file, FILE_NAME);
 }
 
-fn handling(bits: &mut BitsOut, x: &Handling) {
+fn handling(bits: &mut BitsOut<impl Way>, x: &Handling) {
     bits.optional(&x.size, 20);
     let c = &x.codes;
     let codes = c.operation | c.retransmit << 2 | c.precedence << 3 | c.classification << 6;
@@ -96,7 +103,7 @@ fn handling(bits: &mut BitsOut, x: &Handling) {
     bits.optional_text(&x.marking, MARKING);
 }
 
-fn times(bits: &mut BitsOut, x: &Times) {
+fn times(bits: &mut BitsOut<impl Way>, x: &Times) {
     bits.flag(x.origin.present);
     if x.origin.present {
         bits.stamp(&x.origin.stamp);
@@ -114,7 +121,7 @@ fn times(bits: &mut BitsOut, x: &Times) {
     }
 }
 
-fn response(bits: &mut BitsOut, x: &Response) {
+fn response(bits: &mut BitsOut<impl Way>, x: &Response) {
     bits.stamp(&x.stamp);
     bits.number(x.compliance.code, 3);
     bits.optional(&x.compliance.cantco, 3);
@@ -122,7 +129,7 @@ fn response(bits: &mut BitsOut, x: &Response) {
     bits.optional_text(&x.amplification, AMPLIFICATION);
 }
 
-fn references(bits: &mut BitsOut, g: &References) {
+fn references(bits: &mut BitsOut<impl Way>, g: &References) {
     let list = &g.list[..g.count as usize];
     for (i, entry) in list.iter().enumerate() {
         bits.flag(i + 1 < list.len());

@@ -1,6 +1,6 @@
 -- `listing::rows::put_letters` meets its contract. Assumes nothing.
 use borrow.Author.Needs.{needs}
-use Rattle.table.specs.Rows.{askOf}
+use Rattle.order.specs.Requests.{askOf}
 use Rattle.listing.specs.Text.{askedText}
 use Rattle.listing.proofs.Composing.{then-puts}
 use Rattle.listing.proofs.Texts.{letter-length, letters-length}

@@ -1,0 +1,167 @@
+-- The refusals that a call's arguments alone decide, way by way. Assumes nothing.
+use Prim.Native.Nat.{ℕ, zero, suc, _-_, _<_}
+use mathlib.Core.Path.{_≡_, refl, ap, sym, _∙_}
+use mathlib.Core.Bool.{Bool, true, false, _&&_, _||_}
+use mathlib.Core.List.{List, [], _∷_}
+use lib.ListN.{length, getD}
+use lib.Dec.{lit<}
+use native.Mathlib.Omega.{arith}
+use denote.Enum.Declared.{tagOf}
+use Rattle.codec.specs.Answer.{pick}
+use Rattle.codec.specs.Codec.{first}
+use Rattle.codec.specs.Refusals.{checkNo, faultNo}
+use Rattle.codec.specs.declared.Check.{Check}
+use Rattle.codec.proofs.Check as check
+use Rattle.codec.specs.declared.Fault.{Fault}
+use Rattle.codec.proofs.Told.{fault-positive, first-refusal}
+use Rattle.bits.specs.declared.BitPlace.{BitPlace}
+use Rattle.header.specs.declared.Block.{Block}
+use Rattle.header.specs.declared.Header.{Header}
+use Rattle.writer.specs.Writing.{Writing, done, rejected, answered, checking, faultOf, headerSize, told}
+use Rattle.writer.specs.declared.Written.{Written}
+use Rattle.writer.proofs.Written as written
+use Rattle.writer.proofs.Ways.{not-done}
+use Rattle.header.specs.Zero.{noBlock}
+use Rattle.arguments.specs.Arguments.{hasBlock, blockAt}
+use Rattle.arguments.specs.Told.{pendingNo, answerNo, writtenNo}
+use Rattle.arguments.specs.declared.PendingFault.{PendingFault}
+use Rattle.arguments.specs.declared.PendingFault.the-variants.{Record, NothingAsked, NoRecipient, KeyHeld, TableFull, NoResponse, NotOneRecipient, NoRow, NotARecipient, NothingOpen, NoBlock, IllFormed}
+use Rattle.arguments.specs.declared.Answer.{Answer}
+use Rattle.arguments.proofs.Answer as answer
+
+-- ---- tests of flags
+
+pub no-first : (p x : Bool) → p ≡ false → false ≡ (p && x)
+no-first p x e = rw e
+
+pub by-second : (p x : Bool) → p ≡ true → x ≡ (p && x)
+by-second p x e = rw e
+
+pub no-second : (p q x : Bool) → p ≡ true → q ≡ false → false ≡ (p && (q && x))
+no-second p q x e f = rw (e, f)
+
+pub by-third : (p q x : Bool) → p ≡ true → q ≡ true → x ≡ (p && (q && x))
+by-third p q x e f = rw (e, f)
+
+pub asks-first : (p m o x : Bool) → p ≡ true → m ≡ true → true ≡ (p && ((m || o) || x))
+asks-first p m o x e f = rw (e, f)
+
+pub asks-second : (p m o x : Bool) → p ≡ true → m ≡ false → o ≡ true → true ≡ (p && ((m || o) || x))
+asks-second p m o x e f g = rw (e, f, g)
+
+pub asks-third : (p m o x : Bool) → p ≡ true → m ≡ false → o ≡ false → x ≡ (p && ((m || o) || x))
+asks-third p m o x e f g = rw (e, f, g)
+
+-- a cell of a list does not depend on what stands for a missing one
+pub any-default : {A : Type 0} (l : List A) (i : ℕ) (d e : A) → i < length l → getD l i d ≡ getD l i e
+any-default [] i d e h = absurd (omega arith)
+any-default (x ∷ l) zero d e h = refl
+any-default (x ∷ l) (suc i) d e h = any-default l i d e (omega arith)
+
+-- the block with a number
+pub block-is : (h : Header) (n : ℕ) (d : Block) → hasBlock h n ≡ true → n - 1 < length (h .blocks .list) → getD (h .blocks .list) (n - 1) d ≡ blockAt h n
+unfolding blockAt
+block-is h zero d e l = let z : _≡_ {A = ℕ} 0 1 = cc in absurd (omega arith)
+block-is h (suc i) d e l = let k : suc i - 1 ≡ i = omega arith in any-default (h .blocks .list) (suc i - 1) d noBlock l ∙ rw k
+
+-- ---- the writer's answer
+
+go-no : (w : Written) (k n : ℕ) → told w ≡ answered k n → writtenNo w ≡ k
+unfolding told answered writtenNo
+go-no (Written.Done m) zero n e = refl
+go-no (Written.Done m) (suc k) n e = not-done e
+go-no (Written.Refused f p) zero n e = not-done (sym e)
+go-no (Written.Refused f p) (suc k) n e = ap refusedNo e
+  where
+    refusedNo : Writing → ℕ
+    refusedNo (done m) = 0
+    refusedNo (rejected g q) = g
+
+pub written-no : (h : Header) (count : ℕ) (w : Written) → told w ≡ checking h count → writtenNo w ≡ faultOf h count
+unfolding checking
+written-no h count w e = go-no w (faultOf h count) (headerSize h) e
+
+pub written-fine : (w : Written) → tagOf written.the-type w ≡ 0 → 0 ≡ writtenNo w
+unfolding writtenNo
+written-fine (Written.Done n) t = refl
+written-fine (Written.Refused f p) t = absurd (omega arith)
+
+pub written-bad : (w : Written) → tagOf written.the-type w ≡ 1 → 0 < writtenNo w
+unfolding writtenNo
+written-bad (Written.Done n) t = absurd (omega arith)
+written-bad (Written.Refused f p) t = fault-positive f
+
+pub written-fault : (w : Written) (f : Fault) (p : BitPlace) → w ≡ Written.Refused f p → faultNo f ≡ writtenNo w
+unfolding writtenNo
+written-fault w f p e = rw e
+
+-- ---- a record's refusal, then 29 for the block, y for its group and z for the addressees
+
+module _ (f : ℕ) (a b c : Bool) (y z : ℕ) where
+  abbrev chain : ℕ
+  chain = first f (first (pick a 0 29) (first (pick b 0 y) (pick c 0 z)))
+
+  pub at-record : 0 < f → f ≡ chain
+  at-record l = first-refusal f _ l
+
+  module _ (e : f ≡ 0) where
+    pub at-block : a ≡ false → 29 ≡ chain
+    unfolding first
+    at-block d = rw (e, d)
+
+    module _ (t : a ≡ true) where
+      pub at-group : 0 < y → b ≡ false → y ≡ chain
+      unfolding first
+      at-group l d = rw (e, t, d) (first-refusal y _ l)
+
+      module _ (u : b ≡ true) where
+        pub at-addressees : c ≡ false → z ≡ chain
+        unfolding first
+        at-addressees d = rw (e, t, u, d)
+
+        pub at-none : c ≡ true → 0 ≡ chain
+        unfolding first
+        at-none d = rw (e, t, u, d)
+
+-- ---- a key's check
+
+pub check-fine : (x : Check) → tagOf check.the-type x ≡ 0 → 0 ≡ checkNo x
+unfolding checkNo
+check-fine Check.Fine t = refl
+check-fine (Check.Bad f) t = absurd (omega arith)
+
+pub check-bad : (x : Check) → tagOf check.the-type x ≡ 1 → 0 < checkNo x
+unfolding checkNo
+check-bad Check.Fine t = absurd (omega arith)
+check-bad (Check.Bad f) t = fault-positive f
+
+pub check-fault : (x : Check) (f : Fault) → x ≡ Check.Bad f → faultNo f ≡ checkNo x
+unfolding checkNo
+check-fault x f e = rw e
+
+-- ---- an answer
+
+pub answer-done : (x : Answer) → tagOf answer.the-type x ≡ 0 → answerNo x ≡ 0
+unfolding answerNo
+answer-done Answer.Done t = refl
+answer-done (Answer.Refused f p) t = absurd (omega arith)
+
+pub fault-no : (f : PendingFault) → 0 < pendingNo f
+unfolding pendingNo
+fault-no (Record f) = fault-positive f
+fault-no NothingAsked = lit< tt
+fault-no NoRecipient = lit< tt
+fault-no KeyHeld = lit< tt
+fault-no TableFull = lit< tt
+fault-no NoResponse = lit< tt
+fault-no NotOneRecipient = lit< tt
+fault-no NoRow = lit< tt
+fault-no NotARecipient = lit< tt
+fault-no NothingOpen = lit< tt
+fault-no NoBlock = lit< tt
+fault-no IllFormed = lit< tt
+
+pub answer-bad : (x : Answer) → tagOf answer.the-type x ≡ 1 → 0 < answerNo x
+unfolding answerNo
+answer-bad Answer.Done t = absurd (omega arith)
+answer-bad (Answer.Refused f p) t = fault-no f

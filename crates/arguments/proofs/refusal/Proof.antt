@@ -1,0 +1,13 @@
+-- `arguments::refusal` meets its contract. Assumes nothing.
+use borrow.Author.Needs.{needs}
+use mathlib.Core.Path.{refl}
+use Rattle.arguments.specs.Told.{answerNo, answerPlace}
+use Rattle.arguments.proofs.refusal.Statement.{statement}
+use Rattle.arguments.proofs.refusal.Tie as tie
+
+returns : tie.Need-returns
+unfolding answerNo answerPlace
+returns c = (refl, refl)
+
+pub refusal-spec : {M : Type 1} → statement M
+refusal-spec = tie.close (tie.spec returns)

@@ -1,0 +1,45 @@
+-- What the answers of posting, receipt and release tell: document 01's number, 0 for done, and the place, which is 0.
+use Prim.Native.Nat.{ℕ}
+use Rattle.codec.specs.Refusals.{faultNo}
+use Rattle.writer.specs.declared.Written.{Written}
+use Rattle.arguments.specs.declared.PendingFault.{PendingFault}
+use Rattle.arguments.specs.declared.PendingFault.the-variants.{Record, NothingAsked, NoRecipient, KeyHeld, TableFull, NoResponse, NotOneRecipient, NoRow, NotARecipient, NothingOpen, NoBlock, IllFormed}
+use Rattle.arguments.specs.declared.Answer.{Answer}
+
+-- document 01's number of a refusal
+unfoldable pub pendingNo : PendingFault → ℕ
+-- the record's own, or the key's
+pendingNo (Record f) = faultNo f
+-- no G7, or none of its requests is set
+pendingNo NothingAsked = 20
+pendingNo NoRecipient = 21
+pendingNo KeyHeld = 22
+-- all 32 rows are held
+pendingNo TableFull = 23
+-- no G8
+pendingNo NoResponse = 24
+-- no originator, or not exactly one entry in G2
+pendingNo NotOneRecipient = 25
+-- no row has the key
+pendingNo NoRow = 26
+-- the answerer is no recipient of the row
+pendingNo NotARecipient = 27
+-- no open request that the code answers
+pendingNo NothingOpen = 28
+-- no such block, counted from 1
+pendingNo NoBlock = 29
+-- the table is not well formed
+pendingNo IllFormed = 30
+
+unfoldable pub answerNo : Answer → ℕ
+answerNo Answer.Done = 0
+answerNo (Answer.Refused f p) = pendingNo f
+
+unfoldable pub answerPlace : Answer → ℕ
+answerPlace Answer.Done = 0
+answerPlace (Answer.Refused f p) = p .0
+
+-- the number in the writer's answer
+unfoldable pub writtenNo : Written → ℕ
+writtenNo (Written.Done n) = 0
+writtenNo (Written.Refused f p) = faultNo f

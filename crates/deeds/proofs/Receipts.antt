@@ -1,0 +1,173 @@
+-- Receipts, way by way: what the code has found out gives what the call promises. Assumes nothing.
+use Prim.Native.Nat.{ℕ, _+_, _<_, _≤_}
+use mathlib.Core.Path.{_≡_, refl, ap, ap₂, sym, _∙_, subst}
+use mathlib.Core.Bool.{Bool, true, false, cond}
+use mathlib.Core.List.{List, [], _∷_, _++_, map}
+use mathlib.Core.Logic.{inr}
+use mathlib.Core.Option.{Option, none, some}
+use lib.ListN.{length, take, getD, set, length-take, List·getD-map}
+use lib.Seq.{getD-take}
+use lib.Dec.{eqb, lit<}
+use native.Mathlib.Omega.{arith}
+use Rattle.codec.specs.Codec.{viewed}
+use Rattle.codec.proofs.Fields.{and-left}
+use Rattle.codec.proofs.ListEnds.{whole-array}
+use Rattle.codec.proofs.ListLaws.{length-map}
+use Rattle.header.specs.Table.{address, addresses}
+use Rattle.header.specs.Zero.{noAddress}
+use Rattle.header.proofs.Legal.{front-recipients, addressees-legal}
+use Rattle.writer.proofs.Parts.{front-legal}
+use Rattle.header.specs.declared.Address.{Address as DeclaredAddress}
+use Rattle.header.specs.declared.Block.{Block}
+use Rattle.header.specs.declared.Header.{Header}
+use Rattle.order.specs.Values.{Address, addressOf, Key, keyOf, byAddress, byKey}
+use Rattle.order.specs.Keyed.{find, put, alter}
+use Rattle.order.specs.Requests.{Ask, Mark, settle, askOf}
+use Rattle.order.specs.Machine.{step}
+use Rattle.order.specs.Calls.{Row as Cells, Rows, receipt, replied, mark, board}
+use Rattle.order.specs.declared.Key.{Key as DeclaredKey}
+use Rattle.order.proofs.Orders.{Order, by-address, by-key}
+use Rattle.table.specs.Rows.{see, markOf, rowOf, recipientOf, usedRows, usedRecipients, Whole}
+use Rattle.table.specs.Search.{Stopped, keysOf, addressesOf}
+use Rattle.table.specs.WellFormed.{wellFormed, rowFine, recipientFine}
+use Rattle.table.specs.declared.Recipient.{Recipient}
+use Rattle.table.specs.declared.Row.{Row}
+use Rattle.table.specs.declared.Table.{Table}
+use Rattle.table.proofs.Search.{row-held, row-free, recipient-held, recipient-free}
+use Rattle.table.proofs.Moves.{see-replaced, recipients-replaced}
+use Rattle.table.proofs.Kept.{replaced-well-formed, replaced-row-fine}
+use Rattle.table.proofs.Parts.{FineRow, fine-row, all-at}
+use Rattle.arguments.specs.Arguments.{receiving, blockAt, firstRecipient, receiptKey, receiptFault, callOf}
+use Rattle.pending.specs.Calls.{Did}
+use Rattle.arguments.proofs.Names.{Answers}
+use Rattle.pending.proofs.Marks.{settled-fine}
+use Rattle.pending.proofs.Boards.{did-refused, did-done, by-arguments, not-refused, receipt-missing}
+
+-- what is found at a place is what is sought
+found : {A K : Type 0} {cmp : K → K → _} (O : Order cmp) (f : A → K) (k : K) (l : List A) (at : ℕ) (d : A) → Stopped cmp k (map f l) at true → f (getD l at d) ≡ k
+found O f k l at d s = sym (O .eq→ k (f (getD l at d)) (rw (List·getD-map f l at d) at (s .same (f d) refl)))
+
+pub chosen : {A : Type 0} (b : Bool) (x : Option A) → b ≡ false → cond b x none ≡ none
+chosen b x e = rw e
+
+pub picked : {A : Type 0} (b : Bool) (x : A) → b ≡ true → cond b (some x) none ≡ some x
+picked b x e = rw e
+
+-- ---- a row
+
+module _ (row : Row) (fine : rowFine row ≡ true) (from : DeclaredAddress) (code : ℕ) where
+  abbrev w : Address
+  w = addressOf from
+
+  abbrev r : Cells
+  r = rowOf row .1
+
+  pub row-stranger : (at : ℕ) → Stopped byAddress w (addressesOf row) at false → (27 ≡ replied w code r .0) × (r ≡ (r .0, mark w (replied w code r .1) (r .1)))
+  row-stranger at s = let e = recipient-free row w at fine s in (rw e, rw e)
+
+  module _ (at : ℕ) (d : Recipient) (s : Stopped byAddress w (addressesOf row) at true) where
+    abbrev x : Recipient
+    x = getD (row .recipients) at d
+
+    here : find byAddress w (r .1) ≡ some (markOf x)
+    here = recipient-held row w at d s
+
+    pub row-shut : settle (askOf (row .asked)) code (markOf x) ≡ none → (28 ≡ replied w code r .0) × (r ≡ (r .0, mark w (replied w code r .1) (r .1)))
+    row-shut e = (rw (here, e), rw (here, e))
+
+    -- the recipient settled, in its place
+    module _ (y : Recipient) (same : y .address ≡ x .address) (e : settle (askOf (row .asked)) code (markOf x) ≡ some (markOf y)) (after : Row) (key : after .key ≡ row .key) (asked : after .asked ≡ row .asked) (count : after .count ≡ row .count) (cells : usedRecipients after ≡ set (usedRecipients row) at y) where
+      used : at < row .count
+      used = used-cells at (row .count) (row .recipients) (s .inside refl)
+        where
+          used-cells : (i n : ℕ) (l : List Recipient) → i < length (map (λ z. addressOf (z .address)) (take n l)) → i < n
+          used-cells i n l h = omega (arith, length-map (λ (z : Recipient). addressOf (z .address)) (take n l), length-take n l)
+
+      there : addressOf (y .address) ≡ w
+      there =
+          ap addressOf same
+          ∙ ap (λ (z : Recipient). addressOf (z .address)) (sym (getD-take (row .count) (row .recipients) at d used))
+          ∙ found by-address (λ (z : Recipient). addressOf (z .address)) w (usedRecipients row) at d s
+
+      placed : Stopped byAddress (addressOf (y .address)) (addressesOf row) at true
+      placed = rw there s
+
+      pub row-answered : 0 ≡ replied w code r .0
+      row-answered = rw (here, e)
+
+      pub row-after : rowOf after .1 ≡ (r .0, mark w (replied w code r .1) (r .1))
+      row-after =
+          let a : map recipientOf (usedRecipients after) ≡ alter byAddress (addressOf (y .address)) (λ m. markOf y) (map recipientOf (usedRecipients row)) = recipients-replaced row after at y placed cells in
+          (λ i. (askOf (asked i), (a ∙ ap (λ (z : Address). alter byAddress z (λ m. markOf y) (map recipientOf (usedRecipients row))) there) i)) ∙ rw (here, e)
+
+      pub row-kept : rowFine after ≡ true
+      row-kept =
+          let g = fine-row row fine in
+          let x-fine : recipientFine (row .asked) x ≡ true = rw (getD-take (row .count) (row .recipients) at d used) at (all-at (recipientFine (row .asked)) (usedRecipients row) at d (g .recipients) (in-used (row .count) (row .recipients) (s .inside refl))) in
+          replaced-row-fine row after at y fine (settled-fine (row .asked) code x y x-fine same e) placed key asked count cells
+        where
+          in-used : (n : ℕ) (l : List Recipient) → at < length (map (λ z. addressOf (z .address)) (take n l)) → at < length (take n l)
+          in-used n l h = omega (arith, length-map (λ (z : Recipient). addressOf (z .address)) (take n l))
+
+-- ---- the table
+
+-- the cells of G2
+pub whole-list : (h : Header) (n count : ℕ) → Answers h n count → length (h .front .recipients .addresses .list) ≡ 16
+unfolding addresses viewed
+whole-list h n count p =
+    let g = h .front .recipients in
+    whole-array noAddress address 16 15 (g .addresses .list) (g .addresses .count)
+    (addressees-legal g (and-left (g .present) (eqb (g .addresses .count) 1) (p .one)) (front-recipients (h .front) (front-legal h (p .valid .fields))))
+
+module _ (t : Table) (whole : Whole t) (well : wellFormed t ≡ true) (h : Header) (number count : ℕ) where
+  abbrev block : Block
+  block = blockAt h number
+
+  abbrev from : Address
+  from = addressOf (h .front .originator .address)
+
+  abbrev code : ℕ
+  code = block .response .response .compliance .code
+
+  pub receipt-bad : (n : ℕ) → 0 < n → n ≡ receiptFault h number count → Did (receiving h number count) t n t
+  unfolding callOf
+  receipt-bad n l e = did-refused (receiving h number count) t whole well n l (e ∙ by-arguments (receiptFault h number count) _ (see t) (subst (λ (m : ℕ). 0 < m) e l))
+
+  module _ (fine : receiptFault h number count ≡ 0) (k : DeclaredKey) (to : k .address ≡ firstRecipient h) (stamped : k .stamp ≡ block .response .response .stamp) where
+    same-key : k ≡ receiptKey h block
+    same-key = λ i. record { address = to i; stamp = stamped i }
+
+    answers : callOf (receiving h number count) ≡ inr (receipt (keyOf k) from code)
+    unfolding callOf
+    answers = rw same-key (not-refused (receiptFault h number count) _ fine)
+
+    pub receipt-none : (at : ℕ) → Stopped byKey (keyOf k) (keysOf t) at false → Did (receiving h number count) t 26 t
+    receipt-none at s = did-refused (receiving h number count) t whole well 26 (lit< tt) (rw answers (receipt-missing (keyOf k) (see t) from code (row-free t (keyOf k) at well s)))
+
+    module _ (at : ℕ) (d : Row) (s : Stopped byKey (keyOf k) (keysOf t) at true) where
+      abbrev row : Row
+      row = getD (t .rows) at d
+
+      -- the call's outcome is the row's
+      outcome : board (inr (receipt (keyOf k) from code)) (see t) ≡ (replied from code (rowOf row .1) .0, put byKey (keyOf k) (some (rowOf row .1 .0, mark from (replied from code (rowOf row .1) .1) (rowOf row .1 .1))) (see t))
+      unfolding board step
+      outcome = rw (row-held t (keyOf k) at d s)
+
+      -- the code that the code of the call has at hand
+      module _ (n : ℕ) (is : n ≡ code) where
+        pub receipt-refused : (m : ℕ) → 0 < m → m ≡ replied from n (rowOf row .1) .0 → Did (receiving h number count) t m t
+        receipt-refused m l e = did-refused (receiving h number count) t whole well m l (rw (answers, outcome) (subst (λ (c : ℕ). m ≡ replied from c (rowOf row .1) .0) is e))
+
+        pub receipt-settled : (after : Row) (t′ : Table) → 0 ≡ replied from n (rowOf row .1) .0 → after .key ≡ row .key → rowOf after .1 ≡ (rowOf row .1 .0, mark from (replied from n (rowOf row .1) .1) (rowOf row .1 .1)) → rowFine after ≡ true → t′ .count ≡ t .count → usedRows t′ ≡ set (usedRows t) at after → Whole t′ → Did (receiving h number count) t 0 t′
+        receipt-settled after t′ e key cells good m u kept =
+            let used : at < t .count = used-rows (t .count) (t .rows) (s .inside refl) in
+            let f : 0 ≡ replied from code (rowOf row .1) .0 = subst (λ (c : ℕ). 0 ≡ replied from c (rowOf row .1) .0) is e in
+            let g = subst (λ (c : ℕ). rowOf after .1 ≡ (rowOf row .1 .0, mark from (replied from c (rowOf row .1) .1) (rowOf row .1 .1))) is cells in
+            let j : keyOf (row .key) ≡ keyOf k = ap (λ (z : Row). keyOf (z .key)) (sym (getD-take (t .count) (t .rows) at d used)) ∙ found by-key (λ (z : Row). keyOf (z .key)) (keyOf k) (usedRows t) at d s in
+            let i : keyOf (after .key) ≡ keyOf k = ap keyOf key ∙ j in
+            let p : Stopped byKey (keyOf (after .key)) (keysOf t) at true = rw i s in
+            let v = see-replaced t t′ at after p u ∙ λ z. put byKey (i z) (some (g z)) (see t) in
+            did-done (receiving h number count) t whole well t′ (rw (answers, outcome) f) (rw (answers, outcome) v) (replaced-well-formed t t′ at well after good p m u) kept
+          where
+            used-rows : (m : ℕ) (l : List Row) → at < length (map (λ z. keyOf (z .key)) (take m l)) → at < m
+            used-rows m l h = omega (arith, length-map (λ (z : Row). keyOf (z .key)) (take m l), length-take m l)
