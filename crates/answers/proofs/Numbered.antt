@@ -5,7 +5,7 @@ use Rattle.table.specs.declared.Table.{Table}
 use Rattle.arguments.specs.Arguments.{Arguments}
 use Rattle.pending.specs.Calls.{Did}
 use Rattle.arguments.specs.Told.{answerNo, answerPlace}
-use Rattle.pending.specs.declared.TableAfter.{TableAfter}
+use Rattle.deeds.specs.declared.TableAfter.{TableAfter}
 use Rattle.answers.specs.declared.TableAnswer.{TableAnswer}
 
 -- what holds of a call's own answer holds of its numbers

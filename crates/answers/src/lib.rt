@@ -9,10 +9,10 @@ ghost use Rattle.answers.specs.Numbers.{sized, refusedBy, readNumbers, w
 use arguments::Answer;
 use arguments::PendingFault;
 use codec::Fault;
+use deeds::TableAfter;
 use header::Header;
 use listing::Listed;
 use listing::ListingFault;
-use pending::TableAfter;
 use reader::HeaderRead;
 use reader::Outcome;
 use table::Table;

@@ -3,7 +3,7 @@ ghost use mathlib.Core.Path.{_≡_};
 ghost use mathlib.Core.Bool.{true, _&&_};
 ghost use Prim.Native.Nat.{_≤_};
 ghost use Rattle.codec.specs.Refusals.{checkNo};
-ghost use Rattle.arguments.specs.Arguments.{hasBlock, blockAt, asks, someRecipient, oneRecipient, postingFault, receiptFault};
+ghost use Rattle.arguments.specs.Arguments.{hasBlock, blockAt, asks, someRecipient, oneRecipient, postingKey, receiptKey, postingFault, receiptFault};
 ghost use Rattle.arguments.specs.Told.{pendingNo, answerNo, answerPlace, writtenNo};
 use bits::BitPlace;
 use bits::OctetSize;
@@ -11,6 +11,7 @@ use codec::Check;
 use codec::Fault;
 use header::Block;
 use header::Header;
+use order::Key;
 use writer::Written;
 
 // Why a call is refused. The record's own faults, and a key's, are the writer's.
@@ -128,6 +129,31 @@ pub fn one_recipient(h: Header) -> bool
         return false;
     }
     count == 1
+}
+
+// A posting's key: its originator with its block's G5.
+pub fn posting_key(h: Header, b: Block) -> Key
+    ensures { λ r. ⌜ r ≡ postingKey h b ⌝ }
+{
+    let address = h.front.originator.address;
+    let stamp = b.times.origin.stamp;
+    Key {
+        address: address,
+        stamp: stamp,
+    }
+}
+
+// A receipt's key: its one recipient with its block's G8.
+pub fn receipt_key(h: Header, b: Block) -> Key
+    ensures { λ r. ⌜ r ≡ receiptKey h b ⌝ }
+{
+    let list = h.front.recipients.addresses.list;
+    let address = list[0];
+    let stamp = b.response.response.stamp;
+    Key {
+        address: address,
+        stamp: stamp,
+    }
 }
 
 // A posting's arguments: the record's own refusals, then 29, 20 and 21.

@@ -1,63 +1,48 @@
 -- The calls on the rows, way by way, and what each way makes of the table. Assumes nothing.
-use Prim.Native.Nat.{ℕ, zero, suc, _<_}
-use mathlib.Core.Path.{_≡_, refl, sym, _∙_, subst}
-use mathlib.Core.Bool.{Bool, true, false}
-use mathlib.Core.List.{List, [], _∷_}
-use mathlib.Core.Logic.{_≢_, inl, inr}
-use mathlib.Core.Option.{Option, none, some}
+use Prim.Native.Nat.{ℕ, _<_}
+use mathlib.Core.Path.{_≡_, refl, sym, subst}
+use mathlib.Core.Bool.{true, false}
+use mathlib.Core.List.{List}
+use mathlib.Core.Logic.{inr}
+use mathlib.Core.Option.{none, some}
 use lib.ListN.{length}
 use native.Mathlib.Omega.{arith}
-use Rattle.codec.specs.Answer.{pick}
 use Rattle.order.specs.Values.{Address, Key, byKey, byAddress}
-use Rattle.order.specs.Keyed.{find, put, alter, InOrder}
+use Rattle.order.specs.Keyed.{find, put, alter}
 use Rattle.order.specs.Requests.{Ask, Mark, settle}
 use Rattle.order.specs.Machine.{step}
-use Rattle.order.specs.Calls.{Deed, post, receipt, release, Call, Row, Rows, make, full, board}
+use Rattle.order.specs.Calls.{Deed, post, receipt, release, Row, Rows, make, full, board}
 use Rattle.order.proofs.Calls.{refused-stays}
 use Rattle.table.specs.Rows.{see, Whole}
 use Rattle.table.specs.WellFormed.{wellFormed}
 use Rattle.table.specs.declared.Table.{Table}
 use Rattle.table.proofs.InOrder.{rows-in-order}
-use Rattle.arguments.specs.Arguments.{Arguments, named, callOf}
-use Rattle.pending.specs.Calls.{Did, answerOn, rowsAfter}
+use Rattle.deeds.specs.Acts.{Acted}
 use Rattle.arguments.specs.Told.{answerNo}
-use Rattle.pending.specs.declared.TableAfter.{TableAfter}
+use Rattle.deeds.specs.declared.TableAfter.{TableAfter}
 
 -- ---- what each way promises
 
-module _ (a : Arguments) (t : Table) (cells : Whole t) where
-  pub did-ill : wellFormed t ≡ false → Did a t 30 t
-  did-ill w = record { answer = rw w; rows = rw w; well = refl; refused = λ r. refl; cells = cells }
+module _ (d : Deed) (t : Table) where
+  -- a refusal, by its number
+  pub acted-refused : Whole t → wellFormed t ≡ true → (n : ℕ) → 0 < n → n ≡ board (inr d) (see t) .0 → Acted d t n t
+  acted-refused cells w n l e =
+      record {
+        answer = e;
+        rows = sym (refused-stays (inr d) (see t) (rows-in-order t w) (λ z. omega (arith, e, z)));
+        well = w;
+        refused = λ r. refl;
+        cells = cells;
+      }
 
-  module _ (w : wellFormed t ≡ true) where
-    -- a refusal, by its number
-    pub did-refused : (n : ℕ) → 0 < n → n ≡ board (callOf a) (see t) .0 → Did a t n t
-    did-refused n l e =
-        record {
-          answer = e ∙ rw w;
-          rows = sym (refused-stays (callOf a) (see t) (rows-in-order t w) (λ z. omega (arith, e, z))) ∙ rw w;
-          well = refl;
-          refused = λ r. refl;
-          cells = cells;
-        }
+  pub acted-done : (t′ : Table) → 0 ≡ board (inr d) (see t) .0 → see t′ ≡ board (inr d) (see t) .1 → wellFormed t′ ≡ true → Whole t′ → Acted d t 0 t′
+  acted-done t′ e s v c = record { answer = e; rows = s; well = v; refused = λ r. absurd (r refl); cells = c }
 
-    pub did-done : (t′ : Table) → 0 ≡ board (callOf a) (see t) .0 → see t′ ≡ board (callOf a) (see t) .1 → wellFormed t′ ≡ true → Whole t′ → Did a t 0 t′
-    did-done t′ e s v c = record { answer = e ∙ rw w; rows = s ∙ rw w; well = v ∙ sym w; refused = λ r. absurd (r refl); cells = c }
-
--- a refusal that the code hands back
-pub did-kept : (a : Arguments) (t : Table) (n : ℕ) (r : TableAfter) → answerNo (r .answer) ≡ n → r .table ≡ t → Did a t n t → Did a t (answerNo (r .answer)) (r .table)
-did-kept a t n r e f d = subst (λ (m : ℕ). Did a t m (r .table)) (sym e) (subst (λ (u : Table). Did a t n u) (sym f) d)
+  -- a refusal that the code hands back
+  pub acted-kept : (n : ℕ) (r : TableAfter) → answerNo (r .answer) ≡ n → r .table ≡ t → Acted d t n t → Acted d t (answerNo (r .answer)) (r .table)
+  acted-kept n r e f a = subst (λ (m : ℕ). Acted d t m (r .table)) (sym e) (subst (λ (u : Table). Acted d t n u) (sym f) a)
 
 -- ---- the calls on the rows
-
--- a call that its arguments refuse
-pub by-arguments : (f : ℕ) (d : Deed) (s : Rows) → 0 < f → f ≡ board (named f d) s .0
-unfolding board step
-by-arguments zero d s l = absurd (omega arith)
-by-arguments (suc f) d s l = refl
-
-pub not-refused : (f : ℕ) (d : Deed) → f ≡ 0 → named f d ≡ inr d
-not-refused f d e = rw e
 
 module _ (k : Key) (s : Rows) where
   pub release-missing : find byKey k s ≡ none → 26 ≡ board (inr (release k)) s .0

@@ -29,7 +29,7 @@ use Rattle.table.specs.declared.Recipient.{Recipient}
 use Rattle.table.specs.declared.Row.{Row}
 use Rattle.table.proofs.Moves.{put-inserts, put-replaces}
 use Rattle.table.proofs.Kept.{all-inserted, all-replaced}
-use Rattle.pending.proofs.Marks.{well-recipient}
+use Rattle.deeds.proofs.Marks.{well-recipient}
 
 -- ---- one request
 

@@ -1,4 +1,4 @@
--- Receipts, way by way: what the code has found out gives what the call promises. Assumes nothing.
+-- Receipts, way by way: what the code has found out gives what the deed promises. Assumes nothing.
 use Prim.Native.Nat.{ℕ, _+_, _<_, _≤_}
 use mathlib.Core.Path.{_≡_, refl, ap, ap₂, sym, _∙_, subst}
 use mathlib.Core.Bool.{Bool, true, false, cond}
@@ -7,19 +7,11 @@ use mathlib.Core.Logic.{inr}
 use mathlib.Core.Option.{Option, none, some}
 use lib.ListN.{length, take, getD, set, length-take, List·getD-map}
 use lib.Seq.{getD-take}
-use lib.Dec.{eqb, lit<}
+use lib.Dec.{lit<}
 use native.Mathlib.Omega.{arith}
-use Rattle.codec.specs.Codec.{viewed}
-use Rattle.codec.proofs.Fields.{and-left}
-use Rattle.codec.proofs.ListEnds.{whole-array}
 use Rattle.codec.proofs.ListLaws.{length-map}
-use Rattle.header.specs.Table.{address, addresses}
-use Rattle.header.specs.Zero.{noAddress}
-use Rattle.header.proofs.Legal.{front-recipients, addressees-legal}
-use Rattle.writer.proofs.Parts.{front-legal}
+use Rattle.header.specs.Table.{address}
 use Rattle.header.specs.declared.Address.{Address as DeclaredAddress}
-use Rattle.header.specs.declared.Block.{Block}
-use Rattle.header.specs.declared.Header.{Header}
 use Rattle.order.specs.Values.{Address, addressOf, Key, keyOf, byAddress, byKey}
 use Rattle.order.specs.Keyed.{find, put, alter}
 use Rattle.order.specs.Requests.{Ask, Mark, settle, askOf}
@@ -37,11 +29,9 @@ use Rattle.table.proofs.Search.{row-held, row-free, recipient-held, recipient-f
 use Rattle.table.proofs.Moves.{see-replaced, recipients-replaced}
 use Rattle.table.proofs.Kept.{replaced-well-formed, replaced-row-fine}
 use Rattle.table.proofs.Parts.{FineRow, fine-row, all-at}
-use Rattle.arguments.specs.Arguments.{receiving, blockAt, firstRecipient, receiptKey, receiptFault, callOf}
-use Rattle.pending.specs.Calls.{Did}
-use Rattle.arguments.proofs.Names.{Answers}
-use Rattle.pending.proofs.Marks.{settled-fine}
-use Rattle.pending.proofs.Boards.{did-refused, did-done, by-arguments, not-refused, receipt-missing}
+use Rattle.deeds.specs.Acts.{Acted}
+use Rattle.deeds.proofs.Marks.{settled-fine}
+use Rattle.deeds.proofs.Boards.{acted-refused, acted-done, receipt-missing}
 
 -- what is found at a place is what is sought
 found : {A K : Type 0} {cmp : K → K → _} (O : Order cmp) (f : A → K) (k : K) (l : List A) (at : ℕ) (d : A) → Stopped cmp k (map f l) at true → f (getD l at d) ≡ k
@@ -111,63 +101,31 @@ module _ (row : Row) (fine : rowFine row ≡ true) (from : DeclaredAddress) (cod
 
 -- ---- the table
 
--- the cells of G2
-pub whole-list : (h : Header) (n count : ℕ) → Answers h n count → length (h .front .recipients .addresses .list) ≡ 16
-unfolding addresses viewed
-whole-list h n count p =
-    let g = h .front .recipients in
-    whole-array noAddress address 16 15 (g .addresses .list) (g .addresses .count)
-    (addressees-legal g (and-left (g .present) (eqb (g .addresses .count) 1) (p .one)) (front-recipients (h .front) (front-legal h (p .valid .fields))))
+module _ (t : Table) (whole : Whole t) (well : wellFormed t ≡ true) (k : DeclaredKey) (from : Address) (code : ℕ) where
+  pub receipt-none : (at : ℕ) → Stopped byKey (keyOf k) (keysOf t) at false → Acted (receipt (keyOf k) from code) t 26 t
+  receipt-none at s = acted-refused (receipt (keyOf k) from code) t whole well 26 (lit< tt) (receipt-missing (keyOf k) (see t) from code (row-free t (keyOf k) at well s))
 
-module _ (t : Table) (whole : Whole t) (well : wellFormed t ≡ true) (h : Header) (number count : ℕ) where
-  abbrev block : Block
-  block = blockAt h number
+  module _ (at : ℕ) (d : Row) (s : Stopped byKey (keyOf k) (keysOf t) at true) where
+    abbrev row : Row
+    row = getD (t .rows) at d
 
-  abbrev from : Address
-  from = addressOf (h .front .originator .address)
+    -- the call's outcome is the row's
+    outcome : board (inr (receipt (keyOf k) from code)) (see t) ≡ (replied from code (rowOf row .1) .0, put byKey (keyOf k) (some (rowOf row .1 .0, mark from (replied from code (rowOf row .1) .1) (rowOf row .1 .1))) (see t))
+    unfolding board step
+    outcome = rw (row-held t (keyOf k) at d s)
 
-  abbrev code : ℕ
-  code = block .response .response .compliance .code
+    pub receipt-refused : (m : ℕ) → 0 < m → m ≡ replied from code (rowOf row .1) .0 → Acted (receipt (keyOf k) from code) t m t
+    receipt-refused m l e = acted-refused (receipt (keyOf k) from code) t whole well m l (rw outcome e)
 
-  pub receipt-bad : (n : ℕ) → 0 < n → n ≡ receiptFault h number count → Did (receiving h number count) t n t
-  unfolding callOf
-  receipt-bad n l e = did-refused (receiving h number count) t whole well n l (e ∙ by-arguments (receiptFault h number count) _ (see t) (subst (λ (m : ℕ). 0 < m) e l))
-
-  module _ (fine : receiptFault h number count ≡ 0) (k : DeclaredKey) (to : k .address ≡ firstRecipient h) (stamped : k .stamp ≡ block .response .response .stamp) where
-    same-key : k ≡ receiptKey h block
-    same-key = λ i. record { address = to i; stamp = stamped i }
-
-    answers : callOf (receiving h number count) ≡ inr (receipt (keyOf k) from code)
-    unfolding callOf
-    answers = rw same-key (not-refused (receiptFault h number count) _ fine)
-
-    pub receipt-none : (at : ℕ) → Stopped byKey (keyOf k) (keysOf t) at false → Did (receiving h number count) t 26 t
-    receipt-none at s = did-refused (receiving h number count) t whole well 26 (lit< tt) (rw answers (receipt-missing (keyOf k) (see t) from code (row-free t (keyOf k) at well s)))
-
-    module _ (at : ℕ) (d : Row) (s : Stopped byKey (keyOf k) (keysOf t) at true) where
-      abbrev row : Row
-      row = getD (t .rows) at d
-
-      -- the call's outcome is the row's
-      outcome : board (inr (receipt (keyOf k) from code)) (see t) ≡ (replied from code (rowOf row .1) .0, put byKey (keyOf k) (some (rowOf row .1 .0, mark from (replied from code (rowOf row .1) .1) (rowOf row .1 .1))) (see t))
-      unfolding board step
-      outcome = rw (row-held t (keyOf k) at d s)
-
-      -- the code that the code of the call has at hand
-      module _ (n : ℕ) (is : n ≡ code) where
-        pub receipt-refused : (m : ℕ) → 0 < m → m ≡ replied from n (rowOf row .1) .0 → Did (receiving h number count) t m t
-        receipt-refused m l e = did-refused (receiving h number count) t whole well m l (rw (answers, outcome) (subst (λ (c : ℕ). m ≡ replied from c (rowOf row .1) .0) is e))
-
-        pub receipt-settled : (after : Row) (t′ : Table) → 0 ≡ replied from n (rowOf row .1) .0 → after .key ≡ row .key → rowOf after .1 ≡ (rowOf row .1 .0, mark from (replied from n (rowOf row .1) .1) (rowOf row .1 .1)) → rowFine after ≡ true → t′ .count ≡ t .count → usedRows t′ ≡ set (usedRows t) at after → Whole t′ → Did (receiving h number count) t 0 t′
-        receipt-settled after t′ e key cells good m u kept =
-            let used : at < t .count = used-rows (t .count) (t .rows) (s .inside refl) in
-            let f : 0 ≡ replied from code (rowOf row .1) .0 = subst (λ (c : ℕ). 0 ≡ replied from c (rowOf row .1) .0) is e in
-            let g = subst (λ (c : ℕ). rowOf after .1 ≡ (rowOf row .1 .0, mark from (replied from c (rowOf row .1) .1) (rowOf row .1 .1))) is cells in
-            let j : keyOf (row .key) ≡ keyOf k = ap (λ (z : Row). keyOf (z .key)) (sym (getD-take (t .count) (t .rows) at d used)) ∙ found by-key (λ (z : Row). keyOf (z .key)) (keyOf k) (usedRows t) at d s in
-            let i : keyOf (after .key) ≡ keyOf k = ap keyOf key ∙ j in
-            let p : Stopped byKey (keyOf (after .key)) (keysOf t) at true = rw i s in
-            let v = see-replaced t t′ at after p u ∙ λ z. put byKey (i z) (some (g z)) (see t) in
-            did-done (receiving h number count) t whole well t′ (rw (answers, outcome) f) (rw (answers, outcome) v) (replaced-well-formed t t′ at well after good p m u) kept
-          where
-            used-rows : (m : ℕ) (l : List Row) → at < length (map (λ z. keyOf (z .key)) (take m l)) → at < m
-            used-rows m l h = omega (arith, length-map (λ (z : Row). keyOf (z .key)) (take m l), length-take m l)
+    pub receipt-settled : (after : Row) (t′ : Table) → 0 ≡ replied from code (rowOf row .1) .0 → after .key ≡ row .key → rowOf after .1 ≡ (rowOf row .1 .0, mark from (replied from code (rowOf row .1) .1) (rowOf row .1 .1)) → rowFine after ≡ true →
+        t′ .count ≡ t .count → usedRows t′ ≡ set (usedRows t) at after → Whole t′ → Acted (receipt (keyOf k) from code) t 0 t′
+    receipt-settled after t′ e key cells good m u kept =
+        let used : at < t .count = used-rows (t .count) (t .rows) (s .inside refl) in
+        let j : keyOf (row .key) ≡ keyOf k = ap (λ (z : Row). keyOf (z .key)) (sym (getD-take (t .count) (t .rows) at d used)) ∙ found by-key (λ (z : Row). keyOf (z .key)) (keyOf k) (usedRows t) at d s in
+        let i : keyOf (after .key) ≡ keyOf k = ap keyOf key ∙ j in
+        let p : Stopped byKey (keyOf (after .key)) (keysOf t) at true = rw i s in
+        let v = see-replaced t t′ at after p u ∙ λ z. put byKey (i z) (some (cells z)) (see t) in
+        acted-done (receipt (keyOf k) from code) t t′ (rw outcome e) (rw outcome v) (replaced-well-formed t t′ at well after good p m u) kept
+      where
+        used-rows : (m : ℕ) (l : List Row) → at < length (map (λ z. keyOf (z .key)) (take m l)) → at < m
+        used-rows m l h = omega (arith, length-map (λ (z : Row). keyOf (z .key)) (take m l), length-take m l)

@@ -1,5 +1,1 @@
-mod Building
-mod Marks
-mod Boards
-mod Ways
-mod Receipts
+mod Dids

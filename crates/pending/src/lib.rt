@@ -1,63 +1,30 @@
-// Posting, receipt and release on the table of pending messages.
+// Posting, receipt and release on the table of pending messages: a table that is not well formed is
+// refused first, then what the arguments alone refuse, and then the deed is done.
 ghost use mathlib.Core.Path.{_≡_};
 ghost use Rattle.arguments.specs.Arguments.{posting, receiving, releasing};
+ghost use Rattle.arguments.specs.Told.{answerNo, answerPlace};
 ghost use Rattle.pending.specs.Calls.{Did};
-ghost use Rattle.arguments.specs.Told.{pendingNo, answerNo, answerPlace};
 use arguments::Answer;
 use arguments::PendingFault;
+use arguments::block_at;
 use arguments::by_check;
 use arguments::check_posting;
 use arguments::check_receipt;
-use arguments::refusal;
+use arguments::posting_key;
+use arguments::receipt_key;
 use bits::OctetSize;
 use codec::Check;
-use header::Address;
+use deeds::TableAfter;
+use deeds::kept;
+use deeds::post_row;
+use deeds::refused;
+use deeds::release_row;
+use deeds::settle_row;
 use header::Header;
-use header::Stamp;
 use order::Key;
 use table::Table;
-use table::rows::find_row;
-use table::rows::insert_row;
-use table::rows::remove_row;
-use table::rows::replace_row;
 use table::well::check_key;
 use table::well::well_formed;
-
-pub mod row;
-pub mod settled;
-
-// The answer, and the table afterwards; refused, the table as it came.
-pub struct TableAfter {
-    pub answer: Answer,
-    pub table: Table,
-}
-
-// The table as it came, beside an answer.
-fn kept(t: Table, answer: Answer) -> TableAfter
-    ensures { λ r. ⌜ (r .answer ≡ answer) × (r .table ≡ t) ⌝ }
-{
-    TableAfter {
-        answer: answer,
-        table: t,
-    }
-}
-
-// The table as it came, beside a refusal.
-fn refused(t: Table, fault: PendingFault) -> TableAfter
-    ensures { λ r. ⌜ (answerNo (r .answer) ≡ pendingNo fault) × (answerPlace (r .answer) ≡ 0) × (r .table ≡ t) ⌝ }
-{
-    kept(t, refusal(fault))
-}
-
-// A message's key, from its parts.
-fn key_of(address: Address, stamp: Stamp) -> Key
-    ensures { λ r. ⌜ (r .address ≡ address) × (r .stamp ≡ stamp) ⌝ }
-{
-    Key {
-        address: address,
-        stamp: stamp,
-    }
-}
 
 // Posts a block of a message: a row for it, unless its key is held or no line is free.
 pub fn post(t: Table, h: Header, number: u32, count: OctetSize) -> TableAfter
@@ -70,27 +37,14 @@ pub fn post(t: Table, h: Header, number: u32, count: OctetSize) -> TableAfter
     let Answer::Done = answer else {
         return kept(t, answer);
     };
-    let block = arguments::block_at(h, number);
-    let from = h.front.originator.address;
-    let key = key_of(from, block.times.origin.stamp);
-    let place = find_row(t, key);
-    let held = place.held;
-    if held {
-        return refused(t, PendingFault::KeyHeld);
-    }
-    if 32 <= t.count {
-        return refused(t, PendingFault::TableFull);
-    }
-    let row = row::new_row(
+    let block = block_at(h, number);
+    let key = posting_key(h, block);
+    post_row(
+        t,
         key,
         block.times.requests.requests,
         h.front.recipients.addresses,
-    );
-    let posted = insert_row(t, place.at, row);
-    TableAfter {
-        answer: Answer::Done,
-        table: posted,
-    }
+    )
 }
 
 // Settles what a receipt answers, in the row with its key, at its answerer, with its code.
@@ -104,28 +58,14 @@ pub fn receipt(t: Table, h: Header, number: u32, count: OctetSize) -> TableAfter
     let Answer::Done = answer else {
         return kept(t, answer);
     };
-    let block = arguments::block_at(h, number);
-    let to = h.front.recipients.addresses.list;
-    let address = to[0];
-    let key = key_of(address, block.response.response.stamp);
-    let place = find_row(t, key);
-    let held = place.held;
-    if !held {
-        return refused(t, PendingFault::NoRow);
-    }
-    let at = place.at;
-    let row = t.rows[at];
-    let from = h.front.originator.address;
-    let after = settled::settled_row(row, from, block.response.response.compliance.code);
-    let answer = after.answer;
-    let Answer::Done = answer else {
-        return kept(t, answer);
-    };
-    let next = replace_row(t, at, after.row);
-    TableAfter {
-        answer: answer,
-        table: next,
-    }
+    let block = block_at(h, number);
+    let key = receipt_key(h, block);
+    settle_row(
+        t,
+        key,
+        h.front.originator.address,
+        block.response.response.compliance.code,
+    )
 }
 
 // Takes a message out of the table.
@@ -139,14 +79,5 @@ pub fn release(t: Table, key: Key) -> TableAfter
     let Check::Fine = fault else {
         return kept(t, by_check(fault));
     };
-    let place = find_row(t, key);
-    let held = place.held;
-    if !held {
-        return refused(t, PendingFault::NoRow);
-    }
-    let after = remove_row(t, place.at);
-    TableAfter {
-        answer: Answer::Done,
-        table: after,
-    }
+    release_row(t, key)
 }

@@ -1,7 +1,7 @@
--- `pending::kept` meets its contract. Assumes nothing.
+-- `deeds::kept` meets its contract. Assumes nothing.
 use mathlib.Core.Path.{refl}
-use Rattle.pending.proofs.kept.Statement.{statement}
-use Rattle.pending.proofs.kept.Tie as tie
+use Rattle.deeds.proofs.kept.Statement.{statement}
+use Rattle.deeds.proofs.kept.Tie as tie
 
 returns : tie.Need-returns
 returns c = (refl, refl)

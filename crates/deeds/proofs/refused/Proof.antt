@@ -1,9 +1,9 @@
--- `pending::refused` meets its contract. Assumes nothing.
+-- `deeds::refused` meets its contract. Assumes nothing.
 use borrow.Author.Needs.{needs}
 use mathlib.Core.Path.{ap, _∙_}
 use Rattle.arguments.specs.Told.{answerNo, answerPlace}
-use Rattle.pending.proofs.refused.Statement.{statement}
-use Rattle.pending.proofs.refused.Tie as tie
+use Rattle.deeds.proofs.refused.Statement.{statement}
+use Rattle.deeds.proofs.refused.Tie as tie
 
 returns : tie.Need-returns
 returns c =

@@ -1,9 +1,9 @@
--- `pending::row::add_recipient` meets its contract. Assumes nothing.
+-- `deeds::row::add_recipient` meets its contract. Assumes nothing.
 use borrow.Author.Needs.{needs}
 use native.Mathlib.Omega.{arith}
-use Rattle.pending.proofs.Building.{added-new, added-held}
-use Rattle.pending.proofs.row.add_recipient.Statement.{statement}
-use Rattle.pending.proofs.row.add_recipient.Tie as tie
+use Rattle.deeds.proofs.Building.{added-new, added-held}
+use Rattle.deeds.proofs.row.add_recipient.Statement.{statement}
+use Rattle.deeds.proofs.row.add_recipient.Tie as tie
 
 replace-recipient-requires : tie.Need-replace-recipient-requires
 replace-recipient-requires c κs = (c .before .find-recipient .ensures .1 (c .if1 .taken), omega (arith, c .before .before .before .pre))

@@ -1,7 +1,7 @@
--- `pending::row::code_after` meets its contract. Assumes nothing.
-use Rattle.pending.proofs.Building.{code-written, code-kept}
-use Rattle.pending.proofs.row.code_after.Statement.{statement}
-use Rattle.pending.proofs.row.code_after.Tie as tie
+-- `deeds::row::code_after` meets its contract. Assumes nothing.
+use Rattle.deeds.proofs.Building.{code-written, code-kept}
+use Rattle.deeds.proofs.row.code_after.Statement.{statement}
+use Rattle.deeds.proofs.row.code_after.Tie as tie
 
 returns : tie.Need-returns
 returns c = let s = c .before in code-written (s .args .opened) (s .args .code) (s .args .old) (c .if1 .taken) (s .pre)

@@ -1,8 +1,8 @@
--- `pending::row::is_open` meets its contract. Assumes nothing.
+-- `deeds::row::is_open` meets its contract. Assumes nothing.
 use borrow.Author.Tests.{not-true, not-false}
-use Rattle.pending.proofs.Building.{not-asked, not-answered, without-code}
-use Rattle.pending.proofs.row.is_open.Statement.{statement}
-use Rattle.pending.proofs.row.is_open.Tie as tie
+use Rattle.deeds.proofs.Building.{not-asked, not-answered, without-code}
+use Rattle.deeds.proofs.row.is_open.Statement.{statement}
+use Rattle.deeds.proofs.row.is_open.Tie as tie
 
 returns : tie.Need-returns
 returns c = let s = c .before .args in not-asked (s .asked) (s .answers) (s .old) (not-true (s .asked) (c .if1 .taken))

@@ -1,10 +1,10 @@
--- `pending::row::new_row` meets its contract. The invariant: the addresses from i on are in the row. Assumes nothing.
+-- `deeds::row::new_row` meets its contract. The invariant: the addresses from i on are in the row. Assumes nothing.
 use borrow.Author.Needs.{needs}
 use mathlib.Core.Path.{refl}
 use native.Mathlib.Omega.{arith}
-use Rattle.pending.proofs.Building.{Built, built-none, built-more, built-all, most, whole, legal-at}
-use Rattle.pending.proofs.row.new_row.Statement.{statement}
-use Rattle.pending.proofs.row.new_row.Tie as tie
+use Rattle.deeds.proofs.Building.{Built, built-none, built-more, built-all, most, whole, legal-at}
+use Rattle.deeds.proofs.row.new_row.Statement.{statement}
+use Rattle.deeds.proofs.row.new_row.Tie as tie
 
 abbrev Inv-loop : tie.InvT-loop
 Inv-loop list row₀ i₀ row i = Built (row₀ .key) (row₀ .asked) i₀ list i row

@@ -1,8 +1,8 @@
--- `pending::row::unanswered` meets its contract. Assumes nothing.
+-- `deeds::row::unanswered` meets its contract. Assumes nothing.
 use mathlib.Core.Path.{refl}
 use Rattle.table.specs.Rows.{codeOf, markOf}
-use Rattle.pending.proofs.row.unanswered.Statement.{statement}
-use Rattle.pending.proofs.row.unanswered.Tie as tie
+use Rattle.deeds.proofs.row.unanswered.Statement.{statement}
+use Rattle.deeds.proofs.row.unanswered.Tie as tie
 
 returns : tie.Need-returns
 unfolding markOf codeOf

@@ -1,4 +1,4 @@
--- `pending::settled::settled_row` meets its contract. Assumes nothing.
+-- `deeds::settled::settled_row` meets its contract. Assumes nothing.
 use borrow.Author.Needs.{needs}
 use Prim.Native.Nat.{ℕ}
 use mathlib.Core.Path.{_≡_, refl, ap, sym, _∙_, subst}
@@ -10,9 +10,9 @@ use Rattle.order.specs.Values.{addressOf, byAddress}
 use Rattle.table.specs.Search.{Stopped, addressesOf}
 use Rattle.table.proofs.Parts.{fine-row}
 use Rattle.arguments.specs.Told.{pendingNo, answerNo, answerPlace}
-use Rattle.pending.proofs.Receipts.{row-stranger, row-shut, row-answered, row-after, row-kept, chosen, picked}
-use Rattle.pending.proofs.settled.settled_row.Statement.{statement}
-use Rattle.pending.proofs.settled.settled_row.Tie as tie
+use Rattle.deeds.proofs.Receipts.{row-stranger, row-shut, row-answered, row-after, row-kept, chosen, picked}
+use Rattle.deeds.proofs.settled.settled_row.Statement.{statement}
+use Rattle.deeds.proofs.settled.settled_row.Tie as tie
 
 find-recipient-requires : tie.Need-find-recipient-requires
 find-recipient-requires c κs = fine-row (c .args .t1) (c .pre .0) .most

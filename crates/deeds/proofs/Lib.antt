@@ -1,0 +1,5 @@
+mod Building
+mod Marks
+mod Boards
+mod Ways
+mod Receipts
