@@ -10,7 +10,7 @@
  * - Every bool holds 0 or 1. A struct whose octets come from outside goes through pruvelaccio_load_...
  * - A pointer reaches as many octets as the length beside it says. NULL is fine with length 0. A pointer to
  *   a size that the host does not want may be NULL. No other pointer may.
- * - The stack has room. The structs go to the library by value: a receipt, the deepest call, takes 350 KB, so
+ * - The stack has room. The structs go to the library by value: posting, the deepest call, takes 330 KB, so
  *   a thread wants 512 KB.
  * - One table is changed by one thread at a time. The library keeps nothing between calls.
  */

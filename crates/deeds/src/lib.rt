@@ -45,7 +45,7 @@ pub fn kept(t: Table, answer: Answer) -> TableAfter
 }
 
 // The table as it came, beside a refusal.
-pub fn refused(t: Table, fault: PendingFault) -> TableAfter
+fn refused(t: Table, fault: PendingFault) -> TableAfter
     ensures { λ r. ⌜ (answerNo (r .answer) ≡ pendingNo fault) × (answerPlace (r .answer) ≡ 0) × (r .table ≡ t) ⌝ }
 {
     kept(t, refusal(fault))

@@ -1,4 +1,4 @@
--- The three calls, way by way: an ill-formed table, arguments that refuse, a deed that was done. Assumes nothing.
+-- The three calls, way by way: the table's form or the arguments refuse, or the deed was done. Assumes nothing.
 use Prim.Native.Nat.{ℕ, zero, suc, _<_}
 use mathlib.Core.Path.{_≡_, refl, ap, sym, _∙_, subst}
 use mathlib.Core.Bool.{Bool, true, false}
@@ -28,6 +28,7 @@ use Rattle.table.specs.declared.Table.{Table}
 use Rattle.table.proofs.InOrder.{rows-in-order}
 use Rattle.arguments.specs.Arguments.{Arguments, posting, receiving, releasing, blockAt, asks, recipientsOf, postingKey, receiptKey, postingFault, receiptFault, named, callOf}
 use Rattle.arguments.specs.Told.{answerNo}
+use Rattle.arguments.specs.declared.Answer.{Answer}
 use Rattle.arguments.proofs.Legal.{code-some}
 use Rattle.arguments.proofs.Names.{Posts, Answers, legal-at}
 use Rattle.deeds.specs.Acts.{Acted}
@@ -42,55 +43,60 @@ by-arguments (suc f) d s l = refl
 not-refused : (f : ℕ) (d : Deed) → f ≡ 0 → named f d ≡ inr d
 not-refused f d e = rw e
 
+-- what the code has judged fine: the table's form, and the arguments
+pub passed : (b : Bool) (f : ℕ) → pick b f 30 ≡ 0 → (b ≡ true) × (f ≡ 0)
+passed true f e = (refl, e)
+passed false f e = absurd (omega arith)
+
 module _ (a : Arguments) (t : Table) where
-  pub did-ill : Whole t → wellFormed t ≡ false → Did a t 30 t
-  did-ill cells w = record { answer = rw w; rows = rw w; well = refl; refused = λ r. refl; cells = cells }
+  -- the table's form or the arguments alone refuse
+  first-refused : (f : ℕ) (d : Deed) → callOf a ≡ named f d → Whole t → (m : ℕ) → m ≡ pick (wellFormed t) f 30 → 0 < m → Did a t m t
+  first-refused f d e cells m is l = by (wellFormed t) refl
+    where
+      by : (b : Bool) → wellFormed t ≡ b → Did a t m t
+      by false w = let n : m ≡ 30 = is ∙ rw w in rw n (record { answer = rw w; rows = rw w; well = refl; refused = λ r. refl; cells = cells })
+      by true w =
+          let g : m ≡ f = is ∙ rw w in
+          let n : m ≡ board (callOf a) (see t) .0 = rw e (g ∙ by-arguments f d (see t) (subst (λ (k : ℕ). 0 < k) g l)) in
+          record {
+            answer = n ∙ rw w;
+            rows = sym (refused-stays (callOf a) (see t) (rows-in-order t w) (λ z. omega (arith, n, z))) ∙ rw w;
+            well = refl;
+            refused = λ r. refl;
+            cells = cells;
+          }
 
   -- a refusal that the code hands back
-  pub did-kept : (n : ℕ) (r : TableAfter) → answerNo (r .answer) ≡ n → r .table ≡ t → Did a t n t → Did a t (answerNo (r .answer)) (r .table)
-  did-kept n r e f d = subst (λ (m : ℕ). Did a t m (r .table)) (sym e) (subst (λ (u : Table). Did a t n u) (sym f) d)
+  kept : (n : ℕ) (r : TableAfter) → answerNo (r .answer) ≡ n → r .table ≡ t → Did a t n t → Did a t (answerNo (r .answer)) (r .table)
+  kept n r e f d = subst (λ (m : ℕ). Did a t m (r .table)) (sym e) (subst (λ (u : Table). Did a t n u) (sym f) d)
 
-  module _ (w : wellFormed t ≡ true) where
-    -- the arguments alone refuse
-    did-bad : (f : ℕ) (d : Deed) → callOf a ≡ named f d → Whole t → 0 < f → Did a t f t
-    did-bad f d e cells l =
-        let n : f ≡ board (callOf a) (see t) .0 = rw e (by-arguments f d (see t) l) in
-        record {
-          answer = n ∙ rw w;
-          rows = sym (refused-stays (callOf a) (see t) (rows-in-order t w) (λ z. omega (arith, n, z))) ∙ rw w;
-          well = refl;
-          refused = λ r. refl;
-          cells = cells;
-        }
+  pub did-refused : (f : ℕ) (d : Deed) → callOf a ≡ named f d → Whole t → (x : Answer) (r : TableAfter) → answerNo x ≡ pick (wellFormed t) f 30 → 0 < answerNo x → r .answer ≡ x → r .table ≡ t → Did a t (answerNo (r .answer)) (r .table)
+  did-refused f d e cells x r is l same held = kept (answerNo x) r (ap answerNo same) held (first-refused f d e cells (answerNo x) is l)
 
-    pub did-acted : (d : Deed) (n : ℕ) (t′ : Table) → callOf a ≡ inr d → Acted d t n t′ → Did a t n t′
-    did-acted d n t′ e x = record { answer = x .answer ∙ rw (w, e); rows = x .rows ∙ rw (w, e); well = x .well ∙ sym w; refused = x .refused; cells = x .cells }
+  pub did-acted : wellFormed t ≡ true → (d : Deed) (n : ℕ) (t′ : Table) → callOf a ≡ inr d → Acted d t n t′ → Did a t n t′
+  did-acted w d n t′ e x = record { answer = x .answer ∙ rw (w, e); rows = x .rows ∙ rw (w, e); well = x .well ∙ sym w; refused = x .refused; cells = x .cells }
 
 -- ---- release
 
-module _ (t : Table) (w : wellFormed t ≡ true) (k : Key) where
-  pub release-bad : Whole t → (n : ℕ) → 0 < n → n ≡ keyFault k → Did (releasing k) t n t
+module _ (t : Table) (k : Key) where
+  pub release-refused : Whole t → (x : Answer) (r : TableAfter) → answerNo x ≡ pick (wellFormed t) (keyFault k) 30 → 0 < answerNo x → r .answer ≡ x → r .table ≡ t → Did (releasing k) t (answerNo (r .answer)) (r .table)
   unfolding callOf
-  release-bad cells n l e = did-bad (releasing k) t w n (release (keyOf k)) (λ i. named (sym e i) (release (keyOf k))) cells l
+  release-refused = did-refused (releasing k) t (keyFault k) (release (keyOf k)) refl
 
-  pub release-did : keyFault k ≡ 0 → (n : ℕ) (t′ : Table) → Acted (release (keyOf k)) t n t′ → Did (releasing k) t n t′
+  pub release-did : wellFormed t ≡ true → keyFault k ≡ 0 → (n : ℕ) (t′ : Table) → Acted (release (keyOf k)) t n t′ → Did (releasing k) t n t′
   unfolding callOf
-  release-did fine n t′ x = did-acted (releasing k) t w (release (keyOf k)) n t′ (not-refused (keyFault k) (release (keyOf k)) fine) x
+  release-did w fine n t′ x = did-acted (releasing k) t w (release (keyOf k)) n t′ (not-refused (keyFault k) (release (keyOf k)) fine) x
 
 -- ---- posting and receipt: the block and the key that the code has at hand
 
-module _ (t : Table) (w : wellFormed t ≡ true) (h : Header) (n count : ℕ) where
-  pub post-bad : Whole t → (m : ℕ) → 0 < m → m ≡ postingFault h n count → Did (posting h n count) t m t
+module _ (t : Table) (h : Header) (n count : ℕ) where
+  pub post-refused : Whole t → (x : Answer) (r : TableAfter) → answerNo x ≡ pick (wellFormed t) (postingFault h n count) 30 → 0 < answerNo x → r .answer ≡ x → r .table ≡ t → Did (posting h n count) t (answerNo (r .answer)) (r .table)
   unfolding callOf
-  post-bad cells m l e =
-      let d = post (keyOf (postingKey h (blockAt h n))) (askOf (blockAt h n .times .requests .requests)) (map addressOf (recipientsOf h)) in
-      did-bad (posting h n count) t w m d (λ i. named (sym e i) d) cells l
+  post-refused = did-refused (posting h n count) t (postingFault h n count) _ refl
 
-  pub receipt-bad : Whole t → (m : ℕ) → 0 < m → m ≡ receiptFault h n count → Did (receiving h n count) t m t
+  pub receipt-refused : Whole t → (x : Answer) (r : TableAfter) → answerNo x ≡ pick (wellFormed t) (receiptFault h n count) 30 → 0 < answerNo x → r .answer ≡ x → r .table ≡ t → Did (receiving h n count) t (answerNo (r .answer)) (r .table)
   unfolding callOf
-  receipt-bad cells m l e =
-      let d = receipt (keyOf (receiptKey h (blockAt h n))) (addressOf (h .front .originator .address)) (blockAt h n .response .response .compliance .code) in
-      did-bad (receiving h n count) t w m d (λ i. named (sym e i) d) cells l
+  receipt-refused = did-refused (receiving h n count) t (receiptFault h n count) _ refl
 
   module _ (b : Block) (is : b ≡ blockAt h n) (k : Key) where
     module _ (key : k ≡ postingKey h b) (P : Posts h n count) where
@@ -113,9 +119,9 @@ module _ (t : Table) (w : wellFormed t ≡ true) (h : Header) (n count : ℕ) wh
           taken : (p : Bool) → p ≡ true → pick p (take (h .front .recipients .addresses .count) (h .front .recipients .addresses .list)) [] ≡ take (h .front .recipients .addresses .count) (h .front .recipients .addresses .list)
           taken p e = rw e
 
-      pub post-did : postingFault h n count ≡ 0 → (m : ℕ) (t′ : Table) → Acted (post (keyOf k) (askOf (b .times .requests .requests)) (map addressOf (take (h .front .recipients .addresses .count) (h .front .recipients .addresses .list)))) t m t′ → Did (posting h n count) t m t′
+      pub post-did : wellFormed t ≡ true → postingFault h n count ≡ 0 → (m : ℕ) (t′ : Table) → Acted (post (keyOf k) (askOf (b .times .requests .requests)) (map addressOf (take (h .front .recipients .addresses .count) (h .front .recipients .addresses .list)))) t m t′ → Did (posting h n count) t m t′
       unfolding callOf
-      post-did fine m t′ x =
+      post-did w fine m t′ x =
           let same : k ≡ postingKey h (blockAt h n) = key ∙ ap (λ (y : Block). postingKey h y) is in
           did-acted (posting h n count) t w _ m t′
           (not-refused (postingFault h n count) _ fine ∙ λ i. inr (post (keyOf (sym same i)) (askOf (sym is i .times .requests .requests)) (map addressOf (recipients-are i)))) x
@@ -124,9 +130,9 @@ module _ (t : Table) (w : wellFormed t ≡ true) (h : Header) (n count : ℕ) wh
       pub receipt-asks : Answers h n count → 0 < b .response .response .compliance .code
       receipt-asks P = rw is (code-some (blockAt h n) (legal-at h count (P .valid) n (P .block-there)) (P .response))
 
-      pub receipt-did : receiptFault h n count ≡ 0 → (m : ℕ) (t′ : Table) → Acted (receipt (keyOf k) (addressOf (h .front .originator .address)) (b .response .response .compliance .code)) t m t′ → Did (receiving h n count) t m t′
+      pub receipt-did : wellFormed t ≡ true → receiptFault h n count ≡ 0 → (m : ℕ) (t′ : Table) → Acted (receipt (keyOf k) (addressOf (h .front .originator .address)) (b .response .response .compliance .code)) t m t′ → Did (receiving h n count) t m t′
       unfolding callOf
-      receipt-did fine m t′ x =
+      receipt-did w fine m t′ x =
           let same : k ≡ receiptKey h (blockAt h n) = key ∙ ap (λ (y : Block). receiptKey h y) is in
           did-acted (receiving h n count) t w _ m t′
           (not-refused (receiptFault h n count) _ fine ∙ λ i. inr (receipt (keyOf (sym same i)) (addressOf (h .front .originator .address)) (sym is i .response .response .compliance .code))) x
