@@ -6,12 +6,10 @@
 use Prim.Native.Nat.{ℕ, _+_, _≤_}
 use mathlib.Core.Path.{_≡_, refl, ap, ap₂, sym, _∙_}
 use mathlib.Core.Bool.{true}
-use mathlib.Core.List.{List, [], _∷_, _++_, map, map-map}
+use mathlib.Core.List.{List, [], _∷_, _++_, map}
 use lib.ListN.{length}
 use native.Mathlib.Omega.{arith}
-use Rattle.order.specs.Values.{byKey}
-use Rattle.order.specs.Keyed.{sort}
-use Rattle.order.specs.Calls.{Rows, board}
+use Rattle.order.specs.Calls.{Rows}
 use Rattle.order.specs.Sheet as theory
 use Rattle.order.specs.Runs.{exchange, final, answers, states, Changed}
 use Rattle.order.proofs.Calls as calls
@@ -19,7 +17,7 @@ use Rattle.table.specs.Rows.{see}
 use Rattle.table.specs.WellFormed.{wellFormed}
 use Rattle.table.specs.declared.Table.{Table}
 use Rattle.arguments.specs.Arguments.{Arguments, callOf}
-use Rattle.history.specs.Sheet.{Sheet, sheet, inKeyOrder}
+use Rattle.history.specs.Sheet.{Sheet, sheet}
 use Rattle.history.proofs.SheetIs.{sheet-is, in-key-order}
 use Rattle.listing.specs.Listing.{Listing, listing, listingOf, outputAfter}
 use Rattle.history.specs.History.{Run, tableListing, sheetListing, MayChange, lineFor}

@@ -1,9 +1,8 @@
 -- A run from a well-formed table: its answers and rows are those of the calls on the rows, and every table on the way is well formed. Assumes nothing.
 use Prim.Native.Nat.{ℕ}
-use mathlib.Core.Path.{_≡_, refl, ap, ap₂, sym, _∙_}
+use mathlib.Core.Path.{_≡_, refl, ap, ap₂, _∙_}
 use mathlib.Core.Bool.{true}
 use mathlib.Core.List.{List, [], _∷_, _++_, map}
-use Rattle.codec.specs.Answer.{pick}
 use Rattle.header.specs.Rules.{all}
 use Rattle.order.specs.Calls.{Rows, board}
 use Rattle.order.specs.Runs.{final, answers, states, stop, call}
@@ -11,7 +10,6 @@ use Rattle.table.specs.Rows.{see, Whole}
 use Rattle.table.specs.WellFormed.{increasing, wellFormed}
 use Rattle.table.specs.declared.Table.{Table}
 use Rattle.arguments.specs.Arguments.{Arguments, callOf}
-use Rattle.pending.specs.Calls.{Did}
 use Rattle.history.specs.History.{Run}
 
 -- every table of a list is well formed

@@ -1,26 +1,24 @@
 -- The plain sheet of document 01's history, fed with the calls' arguments, is the one that the theory of the calls knows, fed with what the calls name; and its rows in key
 -- order are those that the theory sorts. Assumes nothing.
 use Prim.Native.Nat.{ℕ, zero, suc, Ordering, Ordering·lt as lt, Ordering·eq as eq, Ordering·gt as gt}
-use mathlib.Core.Path.{_≡_, refl, ap, ap₂, sym, _∙_}
+use mathlib.Core.Path.{_≡_, refl, ap, _∙_}
 use mathlib.Core.Bool.{Bool, true, false, cond, _&&_}
 use mathlib.Core.List.{List, [], _∷_, _++_, map}
-use mathlib.Core.Logic.{inl, inr}
 use mathlib.Core.Option.{Option, none, some}
 use lib.ListN.{length}
 use lib.Dec.{leb}
 use Rattle.codec.specs.Answer.{pick}
 use Rattle.codec.specs.Codec.{first}
 use Rattle.order.specs.Order.{choose}
-use Rattle.order.specs.Values.{Address, addressOf, byAddress, Key, keyOf, byKey, keyFault}
+use Rattle.order.specs.Values.{Address, byAddress, Key, keyOf, byKey, keyFault}
 use Rattle.order.specs.Keyed.{find, put, alter, without, sort}
-use Rattle.order.specs.Requests.{Ask, Mark, blank, anyOf, openTo, settle, askOf}
-use Rattle.order.specs.Calls.{Call, Row, make, full, post, receipt, release}
+use Rattle.order.specs.Requests.{Ask, Mark, blank, anyOf, openTo, settle}
+use Rattle.order.specs.Calls.{Row, make, post, receipt, release}
 use Rattle.order.specs.Sheet as theory
-use Rattle.order.proofs.Orders.{cases}
 use Rattle.writer.specs.Writing.{faultOf}
 use Rattle.arguments.specs.Arguments.{Arguments, posting, receiving, releasing, hasBlock, blockAt, asks, someRecipient, oneRecipient, postingFault, receiptFault, named, callOf}
 use Rattle.history.specs.Sheet.{Answers, Sheet, rowWith, answersOf, notHeld, someHeld, openThere, mayAnswer, entered, newAnswers, coded, codedAt, answered, takenOut, ruled, refusal, sheet, placed, inKeyOrder}
-use Rattle.history.proofs.Alike.{alike, alike-cond, address-alike, key-alike}
+use Rattle.history.proofs.Alike.{alike-cond, address-alike, key-alike}
 
 row-with : (k : Key) (s : Sheet) → rowWith k s ≡ find byKey k s
 unfolding rowWith find

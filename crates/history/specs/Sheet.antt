@@ -1,19 +1,17 @@
 -- Document 01's history: a plain sheet of rows in the order of their posting, that takes calls one after the other. It is fed the calls' arguments alone.
 -- Each call has its refusals in their order, the first that applies is the answer, and a refused call changes nothing; 0 is done.
 use Prim.Native.Nat.{ℕ, zero, suc}
-use mathlib.Core.Bool.{Bool, true, false, cond, _&&_, _||_}
+use mathlib.Core.Bool.{Bool, true, false, cond, _&&_}
 use mathlib.Core.List.{List, [], _∷_, _++_, map}
 use mathlib.Core.Option.{Option, none, some}
 use lib.ListN.{length}
 use lib.Dec.{leb, eqb}
 use Rattle.codec.specs.Answer.{pick}
 use Rattle.codec.specs.Codec.{first}
-use Rattle.header.specs.declared.Header.{Header}
 use Rattle.writer.specs.Writing.{faultOf}
 use Rattle.order.specs.Order.{choose}
 use Rattle.order.specs.Values.{Address, urn, name, addressOf, byAddress, Key, keyOf, byKey, keyFault}
 use Rattle.order.specs.Requests.{Ask, Mark, blank, anyOf, openTo, write, askOf}
-use Rattle.order.specs.declared.Key.{Key as DeclaredKey}
 use Rattle.arguments.specs.Arguments.{Arguments, posting, receiving, releasing, hasBlock, blockAt, asks, recipientsOf, someRecipient, oneRecipient, postingKey, receiptKey}
 
 -- at each recipient a code or nothing for each request
