@@ -1,3 +1,4 @@
 mod FillBits
 mod Judging
+mod Stops
 pub mod Accepts

@@ -8,11 +8,14 @@ use Rattle.bits.specs.Bits.{bitsOf}
 use Rattle.bits.specs.Units.{wholeOctets, fillBits, datagramLimit}
 use Rattle.codec.specs.Answer.{Answer, got, refused, next, pick}
 use Rattle.codec.specs.Codec.{must}
+use Rattle.codec.specs.Refusals.{faultNo}
+use Rattle.codec.specs.declared.Check.{Check}
 use Rattle.header.specs.Table.{wire}
 use Rattle.header.specs.Rules.{_⇒_, rulesKept}
 use Rattle.header.specs.Sizes.{sizesRight}
 use Rattle.header.specs.declared.Header.{Header}
 use Rattle.header.specs.declared.Wire.{Wire}
+use Rattle.optional.specs.declared.OptionalNumber.{OptionalNumber}
 
 -- the record and the header's octets; or document 01's number and the bit place
 pub data Reading : Type 0 where
@@ -22,6 +25,10 @@ pub data Reading : Type 0 where
 -- the record of what the bits hold: of the header size only its presence
 abbrev pub recordOf : Wire → Header
 recordOf w = record { front = w .front; sized = w .size .present; blocks = w .blocks }
+
+-- and back: what the bits hold, of a header size and a record
+abbrev pub wireOf : OptionalNumber → Header → Wire
+wireOf size h = record { front = h .front; size = size; blocks = h .blocks }
 
 -- n fill bits from place p on: the first that is 1 is refused
 unfoldable pub readFill : ℕ → List Bool → ℕ → Answer Bool
@@ -36,6 +43,15 @@ sizesHold w octets behind = (w .size .present ⇒ eqb (w .size .value) octets) &
 unfoldable pub settled : Wire → ℕ → ℕ → Reading
 settled w octets behind =
     pick (rulesKept (recordOf w)) (pick (sizesHold w octets behind) (accepted (recordOf w) octets) (rejected 10 0)) (rejected 8 0)
+
+-- the number of that refusal, 0 for none, of the record that is handed back and the header size beside it
+unfoldable pub judgedNo : Header → OptionalNumber → ℕ → ℕ → ℕ
+judgedNo h size octets behind = pick (rulesKept h) (pick (sizesHold (wireOf size h) octets behind) 0 10) 8
+
+-- the refusal that a verdict says; there is none where it is fine, and no caller asks then
+unfoldable pub failedBy : Check → Reading
+failedBy (Check.Bad f) = rejected (faultNo f) 0
+failedBy Check.Fine = rejected 8 0
 
 -- behind the fields: the fill bits
 unfoldable pub filled : List ℕ → Wire → ℕ → Answer Bool → Reading

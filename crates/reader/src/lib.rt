@@ -1,21 +1,17 @@
 // Reading a datagram into the header record, and handing back the user data behind the header.
 ghost use mathlib.Core.Path.{_≡_};
-ghost use Prim.Native.Nat.{_-_, _≤_};
 ghost use lib.Dec.{eqb};
-ghost use lib.ListN.{length};
-ghost use Rattle.bits.specs.Bits.{bitsOf};
-ghost use Rattle.bits.specs.Units.{fillBits, datagramLimit};
-ghost use Rattle.codec.specs.Refusals.{answer, faultNo};
+ghost use Rattle.codec.specs.Refusals.{checkNo, faultNo};
 ghost use Rattle.header.specs.Rules.{_⇒_};
-ghost use Rattle.header.specs.Table.{wire};
-ghost use Rattle.reader.specs.Reading.{reading, rejected, settled, userData, readFill, recordOf};
+ghost use Rattle.reader.specs.Reading.{reading, rejected, judgedNo, failedBy, userData};
 ghost use Rattle.reader.specs.Told.{told, toTell, stoppedBy};
 use bits::BitPlace;
 use bits::OctetSize;
+use codec::Check;
 use codec::Fault;
 use codec::Step;
 use header::Header;
-use header::Wire;
+use optional::OptionalNumber;
 
 pub mod fill;
 pub mod wire;
@@ -55,11 +51,20 @@ fn stopped(step: Step) -> HeaderRead
     }
 }
 
-// The header size, where it is present, is the header's octets.
-fn size_holds(w: Wire, length: OctetSize) -> bool
-    ensures { λ r. ⌜ r ≡ (w .size .present ⇒ eqb (w .size .value) (length .0)) ⌝ }
+// The refusal that a verdict on the fields ended with.
+fn failed(verdict: Check) -> HeaderRead
+    ensures { λ r. ⌜ told r ≡ toTell (failedBy verdict) ⌝ }
 {
-    let size = w.size;
+    match verdict {
+        Check::Bad(fault) => refusal(fault, BitPlace(0)),
+        Check::Fine => refusal(Fault::Rule, BitPlace(0)),
+    }
+}
+
+// The header size, where it is present, is the header's octets.
+fn size_holds(size: OptionalNumber, length: OctetSize) -> bool
+    ensures { λ r. ⌜ r ≡ (size .present ⇒ eqb (size .value) (length .0)) ⌝ }
+{
     let present = size.present;
     if present {
         return size.value as usize == length.0;
@@ -67,31 +72,22 @@ fn size_holds(w: Wire, length: OctetSize) -> bool
     true
 }
 
-// Behind the fill bits: the rules, then the sizes.
-fn settle(w: Wire, length: OctetSize, behind: OctetSize) -> HeaderRead
-    ensures { λ r. ⌜ told r ≡ toTell (settled w (length .0) (behind .0)) ⌝ }
+// Behind the fill bits: the rules, then the sizes. It answers with a verdict, so that the record stays
+// where it is.
+fn judge(h: Header, size: OptionalNumber, length: OctetSize, behind: OctetSize) -> Check
+    ensures { λ r. ⌜ checkNo r ≡ judgedNo h size (length .0) (behind .0) ⌝ }
 {
-    let front = w.front;
-    let blocks = w.blocks;
-    let h = Header {
-        front: front,
-        sized: w.size.present,
-        blocks: blocks,
-    };
     if !rules::rule::rules_kept(h) {
-        return refusal(Fault::Rule, BitPlace(0));
+        return Check::Bad(Fault::Rule);
     }
-    if !size_holds(w, length) {
-        return refusal(Fault::Size, BitPlace(0));
+    if !size_holds(size, length) {
+        return Check::Bad(Fault::Size);
     }
+    let blocks = h.blocks;
     if !rules::sizes::sizes_right(blocks, behind) {
-        return refusal(Fault::Size, BitPlace(0));
+        return Check::Bad(Fault::Size);
     }
-    HeaderRead {
-        outcome: Outcome::Done,
-        header: h,
-        length: length,
-    }
+    Check::Fine
 }
 
 // Reads a datagram: the length first (12), then the fields from the left, the fill bits (9), the
@@ -103,7 +99,6 @@ pub fn read(datagram: &[u8]) -> HeaderRead
         return refusal(Fault::TooLong, BitPlace(0));
     }
     let a = wire::read_wire(datagram, BitPlace(0));
-    let w = a.wire;
     let step = a.step;
     let Step::Next(end) = step else {
         return stopped(step);
@@ -114,7 +109,17 @@ pub fn read(datagram: &[u8]) -> HeaderRead
     };
     let length = bits::whole_octets(end);
     let behind = OctetSize(datagram.len() - length.0);
-    settle(w, length, behind)
+    let header = a.header;
+    let size = a.size;
+    let verdict = judge(header, size, length, behind);
+    let Check::Fine = verdict else {
+        return failed(verdict);
+    };
+    HeaderRead {
+        outcome: Outcome::Done,
+        header: header,
+        length: length,
+    }
 }
 
 // The user data: the part of the datagram that follows the header, empty where the datagram is
