@@ -1,7 +1,7 @@
 // What the arguments of a posting, a receipt or a release alone say: the refusals that need no table.
 ghost use mathlib.Core.Path.{_≡_};
 ghost use mathlib.Core.Bool.{true, _&&_};
-ghost use Prim.Native.Nat.{_≤_};
+ghost use Prim.Native.Nat.{_+_, _<_, _≤_};
 ghost use Rattle.codec.specs.Refusals.{checkNo};
 ghost use Rattle.arguments.specs.Arguments.{hasBlock, blockAt, asks, someRecipient, oneRecipient, postingKey, receiptKey, postingFault, receiptFault};
 ghost use Rattle.arguments.specs.Told.{pendingNo, answerNo, answerPlace, writtenNo};
@@ -73,13 +73,25 @@ pub fn has_block(h: Header, number: u32) -> bool
     number <= count
 }
 
-// That block, of a record with at most 16.
+// The cell of a block's number, counted from 0; the first for a number that no block has.
+fn cell_of(number: u32) -> usize
+    ensures { λ r. ⌜ (r < 16) × (1 ≤ number → number ≤ 16 → r + 1 ≡ number) ⌝ }
+{
+    if number < 1 {
+        return 0;
+    }
+    if 16 < number {
+        return 0;
+    }
+    number as usize - 1
+}
+
+// That block, of a record with at most 16; some other cell where the record has no such block.
 pub fn block_at(h: Header, number: u32) -> Block
-    requires { ⌜ (hasBlock h number ≡ true) × (h .blocks .count ≤ 16) ⌝ }
-    ensures { λ r. ⌜ r ≡ blockAt h number ⌝ }
+    ensures { λ r. ⌜ (hasBlock h number ≡ true → h .blocks .count ≤ 16 → r ≡ blockAt h number) ⌝ }
 {
     let list = h.blocks.list;
-    let i = number as usize - 1;
+    let i = cell_of(number);
     list[i]
 }
 
@@ -156,8 +168,9 @@ pub fn receipt_key(h: Header, b: Block) -> Key
     }
 }
 
-// A posting's arguments: the record's own refusals, then 29, 20 and 21.
-pub fn check_posting(h: Header, number: u32, count: OctetSize) -> Answer
+// A posting's arguments, its block at hand: the record's own refusals, then 29, 20 and 21.
+pub fn check_posting(h: Header, block: Block, number: u32, count: OctetSize) -> Answer
+    requires { ⌜ (hasBlock h number ≡ true → h .blocks .count ≤ 16 → block ≡ blockAt h number) ⌝ }
     ensures { λ r. ⌜ (answerNo r ≡ postingFault h number (count .0)) × (answerPlace r ≡ 0) ⌝ }
 {
     let valid = writer::check(h, count);
@@ -167,7 +180,6 @@ pub fn check_posting(h: Header, number: u32, count: OctetSize) -> Answer
     if !has_block(h, number) {
         return refusal(PendingFault::NoBlock);
     }
-    let block = block_at(h, number);
     if !asks_any(block) {
         return refusal(PendingFault::NothingAsked);
     }
@@ -177,8 +189,9 @@ pub fn check_posting(h: Header, number: u32, count: OctetSize) -> Answer
     Answer::Done
 }
 
-// A receipt's arguments: the record's own refusals, then 29, 24 and 25.
-pub fn check_receipt(h: Header, number: u32, count: OctetSize) -> Answer
+// A receipt's arguments, its block at hand: the record's own refusals, then 29, 24 and 25.
+pub fn check_receipt(h: Header, block: Block, number: u32, count: OctetSize) -> Answer
+    requires { ⌜ (hasBlock h number ≡ true → h .blocks .count ≤ 16 → block ≡ blockAt h number) ⌝ }
     ensures { λ r. ⌜ (answerNo r ≡ receiptFault h number (count .0)) × (answerPlace r ≡ 0) ⌝ }
 {
     let valid = writer::check(h, count);
@@ -188,7 +201,6 @@ pub fn check_receipt(h: Header, number: u32, count: OctetSize) -> Answer
     if !has_block(h, number) {
         return refusal(PendingFault::NoBlock);
     }
-    let block = block_at(h, number);
     let answers = block.response.present;
     if !answers {
         return refusal(PendingFault::NoResponse);

@@ -1,46 +1,87 @@
 -- The calls on the rows, way by way, and what each way makes of the table. Assumes nothing.
-use Prim.Native.Nat.{ℕ, _<_}
-use mathlib.Core.Path.{_≡_, refl, sym, subst}
-use mathlib.Core.Bool.{true, false}
+use Prim.Native.Nat.{ℕ, zero, suc, _<_}
+use mathlib.Core.Path.{_≡_, refl, sym, subst, _∙_}
+use mathlib.Core.Bool.{Bool, true, false}
 use mathlib.Core.List.{List}
 use mathlib.Core.Logic.{inr}
 use mathlib.Core.Option.{none, some}
 use lib.ListN.{length}
+use lib.Dec.{eqb}
+use borrow.Author.Tests.{ne-eqb}
 use native.Mathlib.Omega.{arith}
+use Rattle.codec.specs.Answer.{pick}
 use Rattle.order.specs.Values.{Address, Key, byKey, byAddress}
 use Rattle.order.specs.Keyed.{find, put, alter}
 use Rattle.order.specs.Requests.{Ask, Mark, settle}
 use Rattle.order.specs.Machine.{step}
-use Rattle.order.specs.Calls.{Deed, post, receipt, release, Row, Rows, make, full, board}
+use Rattle.order.specs.Calls.{Call, Deed, post, receipt, release, Row, Rows, make, full, board}
 use Rattle.order.proofs.Calls.{refused-stays}
 use Rattle.table.specs.Rows.{see, Whole}
 use Rattle.table.specs.WellFormed.{wellFormed}
 use Rattle.table.specs.declared.Table.{Table}
 use Rattle.table.proofs.InOrder.{rows-in-order}
+use Rattle.arguments.specs.Arguments.{named}
 use Rattle.deeds.specs.Acts.{Acted}
-use Rattle.arguments.specs.Told.{answerNo}
-use Rattle.deeds.specs.declared.TableAfter.{TableAfter}
 
 -- ---- what each way promises
 
 module _ (d : Deed) (t : Table) where
-  -- a refusal, by its number
-  pub acted-refused : Whole t → wellFormed t ≡ true → (n : ℕ) → 0 < n → n ≡ board (inr d) (see t) .0 → Acted d t n t
+  -- the rows refuse, with a number
+  pub acted-refused : Whole t → wellFormed t ≡ true → (n : ℕ) → 0 < n → n ≡ board (inr d) (see t) .0 → Acted (inr d) t n t
   acted-refused cells w n l e =
       record {
-        answer = e;
-        rows = sym (refused-stays (inr d) (see t) (rows-in-order t w) (λ z. omega (arith, e, z)));
-        well = w;
+        answer = e ∙ rw w;
+        rows = sym (refused-stays (inr d) (see t) (rows-in-order t w) (λ z. omega (arith, e, z))) ∙ rw w;
+        well = refl;
         refused = λ r. refl;
         cells = cells;
       }
 
-  pub acted-done : (t′ : Table) → 0 ≡ board (inr d) (see t) .0 → see t′ ≡ board (inr d) (see t) .1 → wellFormed t′ ≡ true → Whole t′ → Acted d t 0 t′
-  acted-done t′ e s v c = record { answer = e; rows = s; well = v; refused = λ r. absurd (r refl); cells = c }
+  pub acted-done : (t′ : Table) → wellFormed t ≡ true → 0 ≡ board (inr d) (see t) .0 → see t′ ≡ board (inr d) (see t) .1 → wellFormed t′ ≡ true → Whole t′ → Acted (inr d) t 0 t′
+  acted-done t′ w e s v c = record { answer = e ∙ rw w; rows = s ∙ rw w; well = v ∙ sym w; refused = λ r. absurd (r refl); cells = c }
 
-  -- a refusal that the code hands back
-  pub acted-kept : (n : ℕ) (r : TableAfter) → answerNo (r .answer) ≡ n → r .table ≡ t → Acted d t n t → Acted d t (answerNo (r .answer)) (r .table)
-  acted-kept n r e f a = subst (λ (m : ℕ). Acted d t m (r .table)) (sym e) (subst (λ (u : Table). Acted d t n u) (sym f) a)
+-- a refusal that the code hands back
+pub acted-kept : (c : Call) (t t′ : Table) (n x : ℕ) → x ≡ n → t′ ≡ t → Acted c t n t → Acted c t x t′
+acted-kept c t t′ n x e f a = subst (λ (m : ℕ). Acted c t m t′) (sym e) (subst (λ (u : Table). Acted c t n u) (sym f) a)
+
+-- ---- the table's form and the arguments come first
+
+by-arguments : (f : ℕ) (d : Deed) (s : Rows) → 0 < f → f ≡ board (named f d) s .0
+unfolding board step
+by-arguments zero d s l = absurd (omega arith)
+by-arguments (suc f) d s l = refl
+
+pub passed : (b : Bool) (f : ℕ) → pick b f 30 ≡ 0 → (b ≡ true) × (f ≡ 0)
+passed true f e = (refl, e)
+passed false f e = absurd (omega arith)
+
+module _ (d : Deed) (t : Table) (cells : Whole t) (f : ℕ) where
+  first-refused : 0 < pick (wellFormed t) f 30 → Acted (named f d) t (pick (wellFormed t) f 30) t
+  first-refused l = by (wellFormed t) refl
+    where
+      by : (b : Bool) → wellFormed t ≡ b → Acted (named f d) t (pick (wellFormed t) f 30) t
+      by false w = record { answer = rw w; rows = rw w; well = refl; refused = λ r. refl; cells = cells }
+      by true w =
+          let p : 0 < f = rw w at l in
+          let n = by-arguments f d (see t) p in
+          record {
+            answer = rw w n;
+            rows = sym (refused-stays (named f d) (see t) (rows-in-order t w) (λ z. omega (arith, n, z))) ∙ rw w;
+            well = refl;
+            refused = λ r. refl;
+            cells = cells;
+          }
+
+  -- a call whose answer x is known: refused there, or by what the rows say
+  pub acts : (x : ℕ) (t′ : Table) → (0 < pick (wellFormed t) f 30 → x ≡ pick (wellFormed t) f 30) → (eqb x 0 ≡ false → t′ ≡ t) → (wellFormed t ≡ true → f ≡ 0 → Acted (inr d) t x t′) → Acted (named f d) t x t′
+  acts x t′ early kept act = go (pick (wellFormed t) f 30) refl
+    where
+      go : (n : ℕ) → pick (wellFormed t) f 30 ≡ n → Acted (named f d) t x t′
+      go zero e = let p = passed (wellFormed t) f e in subst (λ (g : ℕ). Acted (named g d) t x t′) (sym (p .1)) (act (p .0) (p .1))
+      go (suc n) e =
+          let l : 0 < pick (wellFormed t) f 30 = omega (arith, e) in
+          let z = early l in
+          acted-kept (named f d) t t′ _ x z (kept (ne-eqb x 0 (λ q. omega (arith, z, e, q)))) (first-refused l)
 
 -- ---- the calls on the rows
 

@@ -3,3 +3,4 @@ mod Marks
 mod Boards
 mod Ways
 mod Receipts
+mod Cells

@@ -1,37 +1,46 @@
 -- Receipts, way by way: what the code has found out gives what the deed promises. Assumes nothing.
-use Prim.Native.Nat.{ℕ, _+_, _<_, _≤_}
+use Prim.Native.Nat.{ℕ, zero, suc, _+_, _<_, _≤_}
 use mathlib.Core.Path.{_≡_, refl, ap, ap₂, sym, _∙_, subst}
-use mathlib.Core.Bool.{Bool, true, false, cond}
+use mathlib.Core.Bool.{Bool, true, false, not, cond, false≢true}
 use mathlib.Core.List.{List, [], _∷_, _++_, map}
 use mathlib.Core.Logic.{inr}
 use mathlib.Core.Option.{Option, none, some}
 use lib.ListN.{length, take, getD, set, length-take, List·getD-map}
-use lib.Seq.{getD-take}
-use lib.Dec.{lit<}
+use lib.Seq.{getD-take, take-set-lt}
+use lib.Dec.{lit<, eqb}
+use borrow.Author.Tests.{eq-eqb}
 use native.Mathlib.Omega.{arith}
+use Rattle.codec.specs.Answer.{pick}
+use Rattle.codec.specs.Codec.{first}
 use Rattle.codec.proofs.ListLaws.{length-map}
+use Rattle.codec.proofs.Sequences.{first-zero}
+use Rattle.codec.proofs.Told.{first-refusal}
 use Rattle.header.specs.Table.{address}
 use Rattle.header.specs.declared.Address.{Address as DeclaredAddress}
 use Rattle.order.specs.Values.{Address, addressOf, Key, keyOf, byAddress, byKey}
 use Rattle.order.specs.Keyed.{find, put, alter}
 use Rattle.order.specs.Requests.{Ask, Mark, settle, askOf}
 use Rattle.order.specs.Machine.{step}
-use Rattle.order.specs.Calls.{Row as Cells, Rows, receipt, replied, mark, board}
+use Rattle.order.specs.Calls.{Deed, Row as Cells, Rows, receipt, replied, mark, board}
 use Rattle.order.specs.declared.Key.{Key as DeclaredKey}
 use Rattle.order.proofs.Orders.{Order, by-address, by-key}
 use Rattle.table.specs.Rows.{see, markOf, rowOf, recipientOf, usedRows, usedRecipients, Whole}
-use Rattle.table.specs.Search.{Stopped, keysOf, addressesOf}
+use Rattle.table.specs.Search.{Stopped, keysOf, addressesOf, Placed}
 use Rattle.table.specs.WellFormed.{wellFormed, rowFine, recipientFine}
+use Rattle.table.specs.declared.Position.{Position}
 use Rattle.table.specs.declared.Recipient.{Recipient}
 use Rattle.table.specs.declared.Row.{Row}
 use Rattle.table.specs.declared.Table.{Table}
 use Rattle.table.proofs.Search.{row-held, row-free, recipient-held, recipient-free}
 use Rattle.table.proofs.Moves.{see-replaced, recipients-replaced}
 use Rattle.table.proofs.Kept.{replaced-well-formed, replaced-row-fine}
-use Rattle.table.proofs.Parts.{FineRow, fine-row, all-at}
+use Rattle.table.proofs.Parts.{FineRow, fine-table, fine-row, all-at}
+use Rattle.arguments.specs.Arguments.{named}
 use Rattle.deeds.specs.Acts.{Acted}
 use Rattle.deeds.proofs.Marks.{settled-fine}
-use Rattle.deeds.proofs.Boards.{acted-refused, acted-done, receipt-missing}
+use Rattle.deeds.proofs.Boards.{acted-refused, acted-done, acted-kept, passed, acts, receipt-missing}
+use Rattle.deeds.proofs.Cells.{set-whole, stored-again}
+use Rattle.deeds.proofs.Ways.{held-there}
 
 -- what is found at a place is what is sought
 found : {A K : Type 0} {cmp : K → K → _} (O : Order cmp) (f : A → K) (k : K) (l : List A) (at : ℕ) (d : A) → Stopped cmp k (map f l) at true → f (getD l at d) ≡ k
@@ -102,7 +111,7 @@ module _ (row : Row) (fine : rowFine row ≡ true) (from : DeclaredAddress) (cod
 -- ---- the table
 
 module _ (t : Table) (whole : Whole t) (well : wellFormed t ≡ true) (k : DeclaredKey) (from : Address) (code : ℕ) where
-  pub receipt-none : (at : ℕ) → Stopped byKey (keyOf k) (keysOf t) at false → Acted (receipt (keyOf k) from code) t 26 t
+  pub receipt-none : (at : ℕ) → Stopped byKey (keyOf k) (keysOf t) at false → Acted (inr (receipt (keyOf k) from code)) t 26 t
   receipt-none at s = acted-refused (receipt (keyOf k) from code) t whole well 26 (lit< tt) (receipt-missing (keyOf k) (see t) from code (row-free t (keyOf k) at well s))
 
   module _ (at : ℕ) (d : Row) (s : Stopped byKey (keyOf k) (keysOf t) at true) where
@@ -114,18 +123,64 @@ module _ (t : Table) (whole : Whole t) (well : wellFormed t ≡ true) (k : Decla
     unfolding board step
     outcome = rw (row-held t (keyOf k) at d s)
 
-    pub receipt-refused : (m : ℕ) → 0 < m → m ≡ replied from code (rowOf row .1) .0 → Acted (receipt (keyOf k) from code) t m t
+    pub receipt-refused : (m : ℕ) → 0 < m → m ≡ replied from code (rowOf row .1) .0 → Acted (inr (receipt (keyOf k) from code)) t m t
     receipt-refused m l e = acted-refused (receipt (keyOf k) from code) t whole well m l (rw outcome e)
 
     pub receipt-settled : (after : Row) (t′ : Table) → 0 ≡ replied from code (rowOf row .1) .0 → after .key ≡ row .key → rowOf after .1 ≡ (rowOf row .1 .0, mark from (replied from code (rowOf row .1) .1) (rowOf row .1 .1)) → rowFine after ≡ true →
-        t′ .count ≡ t .count → usedRows t′ ≡ set (usedRows t) at after → Whole t′ → Acted (receipt (keyOf k) from code) t 0 t′
+        t′ .count ≡ t .count → usedRows t′ ≡ set (usedRows t) at after → Whole t′ → Acted (inr (receipt (keyOf k) from code)) t 0 t′
     receipt-settled after t′ e key cells good m u kept =
         let used : at < t .count = used-rows (t .count) (t .rows) (s .inside refl) in
         let j : keyOf (row .key) ≡ keyOf k = ap (λ (z : Row). keyOf (z .key)) (sym (getD-take (t .count) (t .rows) at d used)) ∙ found by-key (λ (z : Row). keyOf (z .key)) (keyOf k) (usedRows t) at d s in
         let i : keyOf (after .key) ≡ keyOf k = ap keyOf key ∙ j in
         let p : Stopped byKey (keyOf (after .key)) (keysOf t) at true = rw i s in
         let v = see-replaced t t′ at after p u ∙ λ z. put byKey (i z) (some (cells z)) (see t) in
-        acted-done (receipt (keyOf k) from code) t t′ (rw outcome e) (rw outcome v) (replaced-well-formed t t′ at well after good p m u) kept
+        acted-done (receipt (keyOf k) from code) t t′ well (rw outcome e) (rw outcome v) (replaced-well-formed t t′ at well after good p m u) kept
       where
         used-rows : (m : ℕ) (l : List Row) → at < length (map (λ z. keyOf (z .key)) (take m l)) → at < m
         used-rows m l h = omega (arith, length-map (λ (z : Row). keyOf (z .key)) (take m l), length-take m l)
+
+-- ---- the whole call, from what the code has found: the place of the key, and what the row says
+
+module _ (t : Table) (cells : Whole t) (k : DeclaredKey) (f : ℕ) (p : Position) (placed : wellFormed t ≡ true → Placed t k p) (from : Address) (code : ℕ) (told : ℕ) (e : told ≡ first (pick (wellFormed t) f 30) (pick (not (p .held)) 26 0)) where
+  abbrev asked : Deed
+  asked = receipt (keyOf k) from code
+
+  pub receipt-there : told ≡ 0 → (wellFormed t ≡ true) × (f ≡ 0) × (p .at < t .count) × (t .count ≤ 32) × Stopped byKey (keyOf k) (keysOf t) (p .at) true
+  receipt-there z =
+      let a = first-zero _ _ (sym e ∙ z) in
+      let q = passed (wellFormed t) f (a .0) in
+      let h = held-there (p .held) 26 (lit< tt) (a .1) in
+      let g = placed (q .0) in
+      (q .0, q .1, g .1 h, fine-table t (q .0) .fits, subst (Stopped byKey (keyOf k) (keysOf t) (p .at)) h (g .2))
+
+  -- no row has the key, or the call was refused before
+  pub receipt-early : eqb told 0 ≡ false → Acted (named f asked) t told t
+  unfolding first
+  receipt-early n = acts asked t cells f told t (λ l. e ∙ sym (first-refusal _ _ l)) (λ q. refl) (λ w z. by w z (p .held) refl)
+    where
+      by : wellFormed t ≡ true → f ≡ 0 → (h : Bool) → p .held ≡ h → Acted (inr asked) t told t
+      by w z true h = let m : told ≡ 0 = e ∙ rw (w, z, h) in absurd (false≢true (sym n ∙ eq-eqb told 0 m))
+      by w z false h = let m : told ≡ 26 = e ∙ rw (w, z, h) in acted-kept (inr asked) t t 26 told m refl (receipt-none t cells w k from code (p .at) (subst (Stopped byKey (keyOf k) (keysOf t) (p .at)) h (placed w .2)))
+
+  -- the row settles it or refuses it; a row that refuses is stored again
+  module _ (z : told ≡ 0) (d : Row) (after : Row) where
+    abbrev old : Row
+    old = getD (t .rows) (p .at) d
+
+    abbrev stored : Table
+    stored = record { rows = set (t .rows) (p .at) after; count = t .count }
+
+    pub receipt-acts : (x : ℕ) → x ≡ replied from code (rowOf old .1) .0 → after .key ≡ old .key → rowOf after .1 ≡ (rowOf old .1 .0, mark from (replied from code (rowOf old .1) .1) (rowOf old .1 .1)) → rowFine after ≡ true → ((x ≡ 0 → ⊥) → after ≡ old) → length (after .recipients) ≡ 16 → Acted (named f asked) t x stored
+    receipt-acts x r key rows good same long =
+        let q = receipt-there z in
+        subst (λ (g : ℕ). Acted (named g asked) t x stored) (sym (q .1)) (by x r same)
+      where
+        by : (x : ℕ) → x ≡ replied from code (rowOf old .1) .0 → ((x ≡ 0 → ⊥) → after ≡ old) → Acted (inr asked) t x stored
+        by zero r same =
+            let q = receipt-there z in
+            receipt-settled t cells (q .0) k from code (p .at) d (q .4) after stored r key rows good refl (take-set-lt (t .count) (t .rows) (p .at) after (q .2)) (set-whole t (p .at) after long cells)
+        by (suc n) r same =
+            let q = receipt-there z in
+            let u : after ≡ old = same (λ i. omega (arith, i)) in
+            let v : stored ≡ t = ap (λ (y : Row). record { rows = set (t .rows) (p .at) y; count = t .count }) u ∙ ap (λ (l : List Row). record { rows = l; count = t .count }) (stored-again (t .rows) (p .at) d (omega (arith, cells .0, q .2, q .3))) in
+            acted-kept (inr asked) t stored (suc n) (suc n) refl v (receipt-refused t cells (q .0) k from code (p .at) d (q .4) (suc n) (omega arith) r)

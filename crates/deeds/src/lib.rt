@@ -1,15 +1,20 @@
-// What posting, receipt and release do to a well-formed table once their arguments are known to be
-// fine: the row that the deed is about, found and put in, settled or taken out.
+// What posting, receipt and release do to any table, once it is known what their arguments say: a table
+// that is not well formed is refused first, then what the arguments refuse, then what the rows refuse, and
+// then the deed is done. A call goes one way whether it is refused or not, and the change itself knows
+// which: each further way would cost a copy of the table.
 ghost use mathlib.Core.Path.{_≡_};
 ghost use mathlib.Core.Bool.{true};
 ghost use mathlib.Core.List.{map};
 ghost use Prim.Native.Nat.{_<_};
+ghost use lib.Dec.{eqb};
 ghost use lib.ListN.{take};
+ghost use Rattle.codec.specs.Answer.{pick};
+ghost use Rattle.codec.specs.Codec.{first};
 ghost use Rattle.header.specs.Table.{addresses};
 ghost use Rattle.order.specs.Values.{addressOf, keyOf, keyFault};
 ghost use Rattle.order.specs.Requests.{anyOf, askOf};
 ghost use Rattle.order.specs.Calls as deed;
-ghost use Rattle.table.specs.WellFormed.{wellFormed};
+ghost use Rattle.arguments.specs.Arguments.{named};
 ghost use Rattle.arguments.specs.Told.{pendingNo, answerNo, answerPlace};
 ghost use Rattle.deeds.specs.Acts.{Acted};
 use arguments::Answer;
@@ -18,12 +23,11 @@ use arguments::refusal;
 use header::Address;
 use header::Addresses;
 use header::Requests;
+use inspect::inspect;
 use order::Key;
 use table::Table;
-use table::rows::find_row;
 use table::rows::insert_row;
 use table::rows::remove_row;
-use table::rows::replace_row;
 
 pub mod row;
 pub mod settled;
@@ -34,81 +38,96 @@ pub struct TableAfter {
     pub table: Table,
 }
 
-// The table as it came, beside an answer.
-pub fn kept(t: Table, answer: Answer) -> TableAfter
-    ensures { λ r. ⌜ (r .answer ≡ answer) × (r .table ≡ t) ⌝ }
+fn is_done(a: Answer) -> bool
+    ensures { λ r. ⌜ r ≡ eqb (answerNo a) 0 ⌝ }
 {
-    TableAfter {
-        answer: answer,
-        table: t,
+    match a {
+        Answer::Done => true,
+        Answer::Refused(_, _) => false,
     }
 }
 
-// The table as it came, beside a refusal.
-fn refused(t: Table, fault: PendingFault) -> TableAfter
-    ensures { λ r. ⌜ (answerNo (r .answer) ≡ pendingNo fault) × (answerPlace (r .answer) ≡ 0) × (r .table ≡ t) ⌝ }
+// The answer so far, and one refusal more behind it.
+fn refused_if(said: Answer, fails: bool, fault: PendingFault) -> Answer
+    requires { ⌜ answerPlace said ≡ 0 ⌝ }
+    ensures { λ r. ⌜ (answerNo r ≡ first (answerNo said) (pick fails (pendingNo fault) 0)) × (answerPlace r ≡ 0) ⌝ }
 {
-    kept(t, refusal(fault))
+    let Answer::Done = said else {
+        return said;
+    };
+    if fails {
+        return refusal(fault);
+    }
+    Answer::Done
+}
+
+// The first refusal of a call: the table's form, then what the arguments alone say.
+fn judged(well: bool, said: Answer) -> Answer
+    requires { ⌜ answerPlace said ≡ 0 ⌝ }
+    ensures { λ r. ⌜ (answerNo r ≡ pick well (answerNo said) 30) × (answerPlace r ≡ 0) ⌝ }
+{
+    if !well {
+        return refusal(PendingFault::IllFormed);
+    }
+    said
 }
 
 // A row for a message, unless its key is held or no line is free.
-pub fn post_row(t: Table, key: Key, asked: Requests, to: Addresses) -> TableAfter
-    requires { ⌜ (wellFormed t ≡ true) × (keyFault key ≡ 0) × (anyOf (askOf asked) ≡ true) × (addresses 15 .check to ≡ 0) ⌝ }
-    ensures { λ r. ⌜ Acted (deed.post (keyOf key) (askOf asked) (map addressOf (take (to .count) (to .list)))) t (answerNo (r .answer)) (r .table) × (answerPlace (r .answer) ≡ 0) ⌝ }
+pub fn post_row(t: Table, key: Key, asked: Requests, to: Addresses, said: Answer) -> TableAfter
+    requires { ⌜ (answerPlace said ≡ 0) × (answerNo said ≡ 0 → (keyFault key ≡ 0) × (anyOf (askOf asked) ≡ true) × (addresses 15 .check to ≡ 0)) ⌝ }
+    ensures { λ r. ⌜ Acted (named (answerNo said) (deed.post (keyOf key) (askOf asked) (map addressOf (take (to .count) (to .list))))) t (answerNo (r .answer)) (r .table) × (answerPlace (r .answer) ≡ 0) ⌝ }
 {
-    let place = find_row(t, key);
-    let held = place.held;
-    if held {
-        return refused(t, PendingFault::KeyHeld);
-    }
-    if 32 <= t.count {
-        return refused(t, PendingFault::TableFull);
-    }
-    let row = row::new_row(key, asked, to);
-    let posted = insert_row(t, place.at, row);
+    let seen = inspect(t, key);
+    let first = judged(seen.well, said);
+    let free = refused_if(first, seen.place.held, PendingFault::KeyHeld);
+    let full = 32 <= t.count;
+    let answer = refused_if(free, full, PendingFault::TableFull);
+    let done = is_done(answer);
+    let row = row::new_row(key, asked, to, done);
+    let table = insert_row(t, done, seen.place.at, row);
     TableAfter {
-        answer: Answer::Done,
-        table: posted,
+        answer: answer,
+        table: table,
     }
 }
 
-// The code written in the row with the key, at the answerer, to each open request that it answers.
-pub fn settle_row(t: Table, key: Key, from: Address, code: u32) -> TableAfter
-    requires { ⌜ (wellFormed t ≡ true) × (0 < code) ⌝ }
-    ensures { λ r. ⌜ Acted (deed.receipt (keyOf key) (addressOf from) code) t (answerNo (r .answer)) (r .table) × (answerPlace (r .answer) ≡ 0) ⌝ }
+// The code written in the row with the key, at the answerer, to each open request that it answers. A row
+// that refuses it is stored as it was.
+pub fn settle_row(t: Table, key: Key, from: Address, code: u32, said: Answer) -> TableAfter
+    requires { ⌜ (answerPlace said ≡ 0) × (answerNo said ≡ 0 → 0 < code) ⌝ }
+    ensures { λ r. ⌜ Acted (named (answerNo said) (deed.receipt (keyOf key) (addressOf from) code)) t (answerNo (r .answer)) (r .table) × (answerPlace (r .answer) ≡ 0) ⌝ }
 {
-    let place = find_row(t, key);
-    let held = place.held;
-    if !held {
-        return refused(t, PendingFault::NoRow);
+    let seen = inspect(t, key);
+    let first = judged(seen.well, said);
+    let held = seen.place.held;
+    let mut answer = refused_if(first, !held, PendingFault::NoRow);
+    let at = seen.place.at;
+    let mut next = t;
+    if is_done(answer) {
+        let row = next.rows[at];
+        let after = settled::settled_row(row, from, code);
+        answer = after.answer;
+        let settled = after.row;
+        next.rows[at] = settled;
     }
-    let at = place.at;
-    let row = t.rows[at];
-    let after = settled::settled_row(row, from, code);
-    let answer = after.answer;
-    let Answer::Done = answer else {
-        return kept(t, answer);
-    };
-    let settled = replace_row(t, at, after.row);
     TableAfter {
         answer: answer,
-        table: settled,
+        table: next,
     }
 }
 
 // The row with the key taken out.
-pub fn release_row(t: Table, key: Key) -> TableAfter
-    requires { ⌜ wellFormed t ≡ true ⌝ }
-    ensures { λ r. ⌜ Acted (deed.release (keyOf key)) t (answerNo (r .answer)) (r .table) × (answerPlace (r .answer) ≡ 0) ⌝ }
+pub fn release_row(t: Table, key: Key, said: Answer) -> TableAfter
+    requires { ⌜ answerPlace said ≡ 0 ⌝ }
+    ensures { λ r. ⌜ Acted (named (answerNo said) (deed.release (keyOf key))) t (answerNo (r .answer)) (r .table) × (answerPlace (r .answer) ≡ 0) ⌝ }
 {
-    let place = find_row(t, key);
-    let held = place.held;
-    if !held {
-        return refused(t, PendingFault::NoRow);
-    }
-    let after = remove_row(t, place.at);
+    let seen = inspect(t, key);
+    let first = judged(seen.well, said);
+    let held = seen.place.held;
+    let answer = refused_if(first, !held, PendingFault::NoRow);
+    let table = remove_row(t, is_done(answer), seen.place.at);
     TableAfter {
-        answer: Answer::Done,
-        table: after,
+        answer: answer,
+        table: table,
     }
 }

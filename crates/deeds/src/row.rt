@@ -5,6 +5,7 @@ ghost use mathlib.Core.List.{map};
 ghost use mathlib.Core.Option.{none, some};
 ghost use Prim.Native.Nat.{_+_, _<_, _≤_};
 ghost use lib.ListN.{take};
+ghost use Rattle.codec.specs.Answer.{pick};
 ghost use Rattle.header.specs.Table.{address, addresses};
 ghost use Rattle.header.specs.Rules.{all};
 ghost use Rattle.order.specs.Values.{addressOf, byAddress};
@@ -53,11 +54,21 @@ fn add_recipient(row: Row, a: Address) -> Row
     insert_recipient(row, p.at, x)
 }
 
+// As many where a call was done, and none otherwise.
+fn where_done(done: bool, count: u32) -> usize
+    ensures { λ r. ⌜ r ≡ pick done count 0 ⌝ }
+{
+    if done {
+        return count as usize;
+    }
+    0
+}
+
 // A new row, from a legal list of recipients: in address order, each once, without codes. They are put
-// in from the last to the first.
-pub fn new_row(key: Key, asked: Requests, to: Addresses) -> Row
-    requires { ⌜ addresses 15 .check to ≡ 0 ⌝ }
-    ensures { λ r. ⌜ (r .key ≡ key) × (r .asked ≡ asked) × (r .count ≤ to .count) × (map recipientOf (usedRecipients r) ≡ sort byAddress (map (λ a. (addressOf a, blank)) (take (to .count) (to .list)))) × (all (recipientFine asked) (usedRecipients r) ≡ true) ⌝ }
+// in from the last to the first. A refused call needs no row, and its list is not looked at.
+pub fn new_row(key: Key, asked: Requests, to: Addresses, done: bool) -> Row
+    requires { ⌜ (done ≡ true → addresses 15 .check to ≡ 0) ⌝ }
+    ensures { λ r. ⌜ (done ≡ true → (r .key ≡ key) × (r .asked ≡ asked) × (r .count ≤ to .count) × (map recipientOf (usedRecipients r) ≡ sort byAddress (map (λ a. (addressOf a, blank)) (take (to .count) (to .list)))) × (all (recipientFine asked) (usedRecipients r) ≡ true)) ⌝ }
 {
     let list = to.list;
     let none = table::zero::no_recipient();
@@ -67,7 +78,7 @@ pub fn new_row(key: Key, asked: Requests, to: Addresses) -> Row
         recipients: [none; 16],
         count: 0,
     };
-    let mut i = to.count as usize;
+    let mut i = where_done(done, to.count);
     while 0 < i {
         i -= 1;
         let a = list[i];

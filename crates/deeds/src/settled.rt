@@ -25,7 +25,7 @@ pub struct RowAfter {
 // A row that is fine, with the code written at the answerer to each open request that it answers.
 pub fn settled_row(old: Row, from: Address, code: u32) -> RowAfter
     requires { ⌜ (rowFine old ≡ true) × (0 < code) ⌝ }
-    ensures { λ r. ⌜ (answerNo (r .answer) ≡ replied (addressOf from) code (rowOf old .1) .0) × (answerPlace (r .answer) ≡ 0) × (r .row .key ≡ old .key) × (rowOf (r .row) .1 ≡ (rowOf old .1 .0, mark (addressOf from) (replied (addressOf from) code (rowOf old .1) .1) (rowOf old .1 .1))) × (rowFine (r .row) ≡ true) ⌝ }
+    ensures { λ r. ⌜ (answerNo (r .answer) ≡ replied (addressOf from) code (rowOf old .1) .0) × (answerPlace (r .answer) ≡ 0) × (r .row .key ≡ old .key) × (rowOf (r .row) .1 ≡ (rowOf old .1 .0, mark (addressOf from) (replied (addressOf from) code (rowOf old .1) .1) (rowOf old .1 .1))) × (rowFine (r .row) ≡ true) × ((answerNo (r .answer) ≡ 0 → ⊥) → r .row ≡ old) ⌝ }
 {
     let place = find_recipient(old, from);
     let held = place.held;

@@ -73,7 +73,7 @@ fn put_listed(out: &mut [u8], t: Table, number: u32) -> OctetSize
 pub fn list_row(t: Table, number: u32, out: &mut [u8]) -> Listed
     ensures { λ r. ⌜ (told r ≡ listing t number (length (now (out .entry)))) × (now (out .exit) ≡ outputAfter (see t) number (listing t number (length (now (out .entry)))) (now (out .entry))) ⌝ }
 {
-    if !table::well::well_formed(t) {
+    if !inspect::well_formed(t) {
         return refusal(ListingFault::IllFormed);
     }
     let size = listed_length(t, number);

@@ -1,138 +1,104 @@
--- The three calls, way by way: the table's form or the arguments refuse, or the deed was done. Assumes nothing.
-use Prim.Native.Nat.{ℕ, zero, suc, _<_}
+-- The three calls: what the code names is what document 01 has the call name, so that the deed done is the call's. Assumes nothing.
+use Prim.Native.Nat.{ℕ, zero, suc, _<_, _≤_}
 use mathlib.Core.Path.{_≡_, refl, ap, sym, _∙_, subst}
 use mathlib.Core.Bool.{Bool, true, false}
-use mathlib.Core.List.{List, [], map}
-use mathlib.Core.Logic.{inr}
+use mathlib.Core.List.{[], map}
 use lib.ListN.{take}
-use lib.Dec.{leb, eqb}
+use lib.Dec.{leb}
 use native.Mathlib.Omega.{arith}
 use Rattle.codec.specs.Answer.{pick}
-use Rattle.codec.specs.Codec.{first}
+use Rattle.codec.specs.Codec.{first, viewed}
 use Rattle.codec.proofs.Fields.{and-left, and-right}
-use Rattle.header.specs.Table.{address, addresses, stamp}
-use Rattle.header.specs.declared.Address.{Address}
+use Rattle.codec.proofs.ListEnds.{count-most}
+use Rattle.header.specs.Table.{addresses, block, blocks}
+use Rattle.header.specs.Zero.{noBlock}
 use Rattle.header.specs.declared.Block.{Block}
 use Rattle.header.specs.declared.Header.{Header}
 use Rattle.header.proofs.Legal.{front-recipients, addressees-legal}
-use Rattle.writer.proofs.Parts.{front-legal}
+use Rattle.writer.proofs.Valid.{Valid}
+use Rattle.writer.proofs.Parts.{front-legal, blocks-legal}
 use Rattle.order.specs.Values.{addressOf, keyOf, keyFault}
 use Rattle.order.specs.Requests.{anyOf, askOf}
-use Rattle.order.specs.Machine.{step}
-use Rattle.order.specs.Calls.{Deed, post, receipt, release, Rows, board}
+use Rattle.order.specs.Calls.{Call, Deed, post, receipt, release}
 use Rattle.order.specs.declared.Key.{Key}
-use Rattle.order.proofs.Calls.{refused-stays}
-use Rattle.table.specs.Rows.{see, Whole}
-use Rattle.table.specs.WellFormed.{wellFormed}
 use Rattle.table.specs.declared.Table.{Table}
-use Rattle.table.proofs.InOrder.{rows-in-order}
-use Rattle.arguments.specs.Arguments.{Arguments, posting, receiving, releasing, blockAt, asks, recipientsOf, postingKey, receiptKey, postingFault, receiptFault, named, callOf}
-use Rattle.arguments.specs.Told.{answerNo}
-use Rattle.arguments.specs.declared.Answer.{Answer}
+use Rattle.arguments.specs.Arguments.{Arguments, posting, receiving, releasing, hasBlock, blockAt, recipientsOf, postingKey, receiptKey, postingFault, receiptFault, named, callOf}
 use Rattle.arguments.proofs.Legal.{code-some}
-use Rattle.arguments.proofs.Names.{Posts, Answers, legal-at}
+use Rattle.arguments.proofs.Names.{Posts, Answers, posts, answers, legal-at}
 use Rattle.deeds.specs.Acts.{Acted}
-use Rattle.deeds.specs.declared.TableAfter.{TableAfter}
 use Rattle.pending.specs.Calls.{Did}
 
-by-arguments : (f : ℕ) (d : Deed) (s : Rows) → 0 < f → f ≡ board (named f d) s .0
-unfolding board step
-by-arguments zero d s l = absurd (omega arith)
-by-arguments (suc f) d s l = refl
+-- a call that the arguments refuse names no deed
+same-named : (f g : ℕ) (d e : Deed) → f ≡ g → (g ≡ 0 → d ≡ e) → named f d ≡ named g e
+same-named f g d e i same = ap (λ (n : ℕ). named n d) i ∙ go g same
+  where
+    go : (n : ℕ) → (n ≡ 0 → d ≡ e) → named n d ≡ named n e
+    go zero s = ap (named 0) (s refl)
+    go (suc n) s = refl
 
-not-refused : (f : ℕ) (d : Deed) → f ≡ 0 → named f d ≡ inr d
-not-refused f d e = rw e
-
--- what the code has judged fine: the table's form, and the arguments
-pub passed : (b : Bool) (f : ℕ) → pick b f 30 ≡ 0 → (b ≡ true) × (f ≡ 0)
-passed true f e = (refl, e)
-passed false f e = absurd (omega arith)
-
-module _ (a : Arguments) (t : Table) where
-  -- the table's form or the arguments alone refuse
-  first-refused : (f : ℕ) (d : Deed) → callOf a ≡ named f d → Whole t → (m : ℕ) → m ≡ pick (wellFormed t) f 30 → 0 < m → Did a t m t
-  first-refused f d e cells m is l = by (wellFormed t) refl
-    where
-      by : (b : Bool) → wellFormed t ≡ b → Did a t m t
-      by false w = let n : m ≡ 30 = is ∙ rw w in rw n (record { answer = rw w; rows = rw w; well = refl; refused = λ r. refl; cells = cells })
-      by true w =
-          let g : m ≡ f = is ∙ rw w in
-          let n : m ≡ board (callOf a) (see t) .0 = rw e (g ∙ by-arguments f d (see t) (subst (λ (k : ℕ). 0 < k) g l)) in
-          record {
-            answer = n ∙ rw w;
-            rows = sym (refused-stays (callOf a) (see t) (rows-in-order t w) (λ z. omega (arith, n, z))) ∙ rw w;
-            well = refl;
-            refused = λ r. refl;
-            cells = cells;
-          }
-
-  -- a refusal that the code hands back
-  kept : (n : ℕ) (r : TableAfter) → answerNo (r .answer) ≡ n → r .table ≡ t → Did a t n t → Did a t (answerNo (r .answer)) (r .table)
-  kept n r e f d = subst (λ (m : ℕ). Did a t m (r .table)) (sym e) (subst (λ (u : Table). Did a t n u) (sym f) d)
-
-  pub did-refused : (f : ℕ) (d : Deed) → callOf a ≡ named f d → Whole t → (x : Answer) (r : TableAfter) → answerNo x ≡ pick (wellFormed t) f 30 → 0 < answerNo x → r .answer ≡ x → r .table ≡ t → Did a t (answerNo (r .answer)) (r .table)
-  did-refused f d e cells x r is l same held = kept (answerNo x) r (ap answerNo same) held (first-refused f d e cells (answerNo x) is l)
-
-  pub did-acted : wellFormed t ≡ true → (d : Deed) (n : ℕ) (t′ : Table) → callOf a ≡ inr d → Acted d t n t′ → Did a t n t′
-  did-acted w d n t′ e x = record { answer = x .answer ∙ rw (w, e); rows = x .rows ∙ rw (w, e); well = x .well ∙ sym w; refused = x .refused; cells = x .cells }
+did : (a : Arguments) (c : Call) (t t′ : Table) (n : ℕ) → c ≡ callOf a → Acted c t n t′ → Did a t n t′
+did a c t t′ n e x = let y = subst (λ (d : Call). Acted d t n t′) e x in record { answer = y .answer; rows = y .rows; well = y .well; refused = y .refused; cells = y .cells }
 
 -- ---- release
 
-module _ (t : Table) (k : Key) where
-  pub release-refused : Whole t → (x : Answer) (r : TableAfter) → answerNo x ≡ pick (wellFormed t) (keyFault k) 30 → 0 < answerNo x → r .answer ≡ x → r .table ≡ t → Did (releasing k) t (answerNo (r .answer)) (r .table)
-  unfolding callOf
-  release-refused = did-refused (releasing k) t (keyFault k) (release (keyOf k)) refl
-
-  pub release-did : wellFormed t ≡ true → keyFault k ≡ 0 → (n : ℕ) (t′ : Table) → Acted (release (keyOf k)) t n t′ → Did (releasing k) t n t′
-  unfolding callOf
-  release-did w fine n t′ x = did-acted (releasing k) t w (release (keyOf k)) n t′ (not-refused (keyFault k) (release (keyOf k)) fine) x
+pub release-did : (t t′ : Table) (k : Key) (f n : ℕ) → f ≡ keyFault k → Acted (named f (release (keyOf k))) t n t′ → Did (releasing k) t n t′
+unfolding callOf
+release-did t t′ k f n e x = did (releasing k) _ t t′ n (same-named f _ _ _ e (λ z. refl)) x
 
 -- ---- posting and receipt: the block and the key that the code has at hand
 
-module _ (t : Table) (h : Header) (n count : ℕ) where
-  pub post-refused : Whole t → (x : Answer) (r : TableAfter) → answerNo x ≡ pick (wellFormed t) (postingFault h n count) 30 → 0 < answerNo x → r .answer ≡ x → r .table ≡ t → Did (posting h n count) t (answerNo (r .answer)) (r .table)
-  unfolding callOf
-  post-refused = did-refused (posting h n count) t (postingFault h n count) _ refl
+module _ (h : Header) (n count : ℕ) (b : Block) (is : hasBlock h n ≡ true → h .blocks .count ≤ 16 → b ≡ blockAt h n) (k : Key) where
+  -- a valid record's block
+  block-is : Valid h count → hasBlock h n ≡ true → b ≡ blockAt h n
+  unfolding blocks viewed
+  block-is v there = is there (count-most noBlock block 16 15 _ _ (blocks-legal h (v .fields)))
 
-  pub receipt-refused : Whole t → (x : Answer) (r : TableAfter) → answerNo x ≡ pick (wellFormed t) (receiptFault h n count) 30 → 0 < answerNo x → r .answer ≡ x → r .table ≡ t → Did (receiving h n count) t (answerNo (r .answer)) (r .table)
-  unfolding callOf
-  receipt-refused = did-refused (receiving h n count) t (receiptFault h n count) _ refl
+  module _ (key : k ≡ postingKey h b) where
+    present : Posts h n count → h .front .recipients .present ≡ true
+    present P = and-left (h .front .recipients .present) (leb 1 (h .front .recipients .addresses .count)) (P .addressed)
 
-  module _ (b : Block) (is : b ≡ blockAt h n) (k : Key) where
-    module _ (key : k ≡ postingKey h b) (P : Posts h n count) where
-      present : h .front .recipients .present ≡ true
-      present = and-left (h .front .recipients .present) (leb 1 (h .front .recipients .addresses .count)) (P .addressed)
+    -- what is asked of the arguments of the deed
+    pub post-asks : (f : ℕ) → f ≡ postingFault h n count → f ≡ 0 → (keyFault k ≡ 0) × (anyOf (askOf (b .times .requests .requests)) ≡ true) × (addresses 15 .check (h .front .recipients .addresses) ≡ 0)
+    unfolding first
+    post-asks f e z =
+        let P = posts h n count (sym e ∙ z) in
+        let i = block-is (P .valid) (P .block-there) in (
+          rw (key, i, P .from-legal, P .origin-legal) refl,
+          rw i (and-right (blockAt h n .times .requests .present) _ (P .asking)),
+          addressees-legal (h .front .recipients) (present P) (front-recipients (h .front) (front-legal h (P .valid .fields))),
+        )
 
-      -- what is asked of the arguments of the deed
-      pub post-asks : (keyFault k ≡ 0) × (anyOf (askOf (b .times .requests .requests)) ≡ true) × (addresses 15 .check (h .front .recipients .addresses) ≡ 0)
-      unfolding first
-      post-asks = (
-        rw (key, is, P .from-legal, P .origin-legal) refl,
-        rw is (and-right (blockAt h n .times .requests .present) _ (P .asking)),
-        addressees-legal (h .front .recipients) present (front-recipients (h .front) (front-legal h (P .valid .fields))),
-      )
+    recipients-are : Posts h n count → take (h .front .recipients .addresses .count) (h .front .recipients .addresses .list) ≡ recipientsOf h
+    unfolding recipientsOf
+    recipients-are P = taken (h .front .recipients .present) (present P)
+      where
+        taken : (p : Bool) → p ≡ true → take (h .front .recipients .addresses .count) (h .front .recipients .addresses .list) ≡ pick p (take (h .front .recipients .addresses .count) (h .front .recipients .addresses .list)) []
+        taken p e = rw e
 
-      recipients-are : recipientsOf h ≡ take (h .front .recipients .addresses .count) (h .front .recipients .addresses .list)
-      unfolding recipientsOf
-      recipients-are = taken (h .front .recipients .present) present
-        where
-          taken : (p : Bool) → p ≡ true → pick p (take (h .front .recipients .addresses .count) (h .front .recipients .addresses .list)) [] ≡ take (h .front .recipients .addresses .count) (h .front .recipients .addresses .list)
-          taken p e = rw e
+    pub post-did : (t t′ : Table) (f m : ℕ) → f ≡ postingFault h n count → Acted (named f (post (keyOf k) (askOf (b .times .requests .requests)) (map addressOf (take (h .front .recipients .addresses .count) (h .front .recipients .addresses .list))))) t m t′ → Did (posting h n count) t m t′
+    unfolding callOf
+    post-did t t′ f m e x = did (posting h n count) _ t t′ m (same-named f _ _ _ e named-so) x
+      where
+        named-so : postingFault h n count ≡ 0 → post (keyOf k) (askOf (b .times .requests .requests)) (map addressOf (take (h .front .recipients .addresses .count) (h .front .recipients .addresses .list))) ≡ post (keyOf (postingKey h (blockAt h n))) (askOf (blockAt h n .times .requests .requests)) (map addressOf (recipientsOf h))
+        named-so z =
+            let P = posts h n count z in
+            let i = block-is (P .valid) (P .block-there) in
+            let same : k ≡ postingKey h (blockAt h n) = key ∙ ap (λ (y : Block). postingKey h y) i in
+            λ j. post (keyOf (same j)) (askOf (i j .times .requests .requests)) (map addressOf (recipients-are P j))
 
-      pub post-did : wellFormed t ≡ true → postingFault h n count ≡ 0 → (m : ℕ) (t′ : Table) → Acted (post (keyOf k) (askOf (b .times .requests .requests)) (map addressOf (take (h .front .recipients .addresses .count) (h .front .recipients .addresses .list)))) t m t′ → Did (posting h n count) t m t′
-      unfolding callOf
-      post-did w fine m t′ x =
-          let same : k ≡ postingKey h (blockAt h n) = key ∙ ap (λ (y : Block). postingKey h y) is in
-          did-acted (posting h n count) t w _ m t′
-          (not-refused (postingFault h n count) _ fine ∙ λ i. inr (post (keyOf (sym same i)) (askOf (sym is i .times .requests .requests)) (map addressOf (recipients-are i)))) x
+  module _ (key : k ≡ receiptKey h b) where
+    pub receipt-asks : (f : ℕ) → f ≡ receiptFault h n count → f ≡ 0 → 0 < b .response .response .compliance .code
+    receipt-asks f e z =
+        let P = answers h n count (sym e ∙ z) in
+        rw (block-is (P .valid) (P .block-there)) (code-some (blockAt h n) (legal-at h count (P .valid) n (P .block-there)) (P .response))
 
-    module _ (key : k ≡ receiptKey h b) where
-      pub receipt-asks : Answers h n count → 0 < b .response .response .compliance .code
-      receipt-asks P = rw is (code-some (blockAt h n) (legal-at h count (P .valid) n (P .block-there)) (P .response))
-
-      pub receipt-did : wellFormed t ≡ true → receiptFault h n count ≡ 0 → (m : ℕ) (t′ : Table) → Acted (receipt (keyOf k) (addressOf (h .front .originator .address)) (b .response .response .compliance .code)) t m t′ → Did (receiving h n count) t m t′
-      unfolding callOf
-      receipt-did w fine m t′ x =
-          let same : k ≡ receiptKey h (blockAt h n) = key ∙ ap (λ (y : Block). receiptKey h y) is in
-          did-acted (receiving h n count) t w _ m t′
-          (not-refused (receiptFault h n count) _ fine ∙ λ i. inr (receipt (keyOf (sym same i)) (addressOf (h .front .originator .address)) (sym is i .response .response .compliance .code))) x
+    pub receipt-did : (t t′ : Table) (f m : ℕ) → f ≡ receiptFault h n count → Acted (named f (receipt (keyOf k) (addressOf (h .front .originator .address)) (b .response .response .compliance .code))) t m t′ → Did (receiving h n count) t m t′
+    unfolding callOf
+    receipt-did t t′ f m e x = did (receiving h n count) _ t t′ m (same-named f _ _ _ e named-so) x
+      where
+        named-so : receiptFault h n count ≡ 0 → receipt (keyOf k) (addressOf (h .front .originator .address)) (b .response .response .compliance .code) ≡ receipt (keyOf (receiptKey h (blockAt h n))) (addressOf (h .front .originator .address)) (blockAt h n .response .response .compliance .code)
+        named-so z =
+            let P = answers h n count z in
+            let i = block-is (P .valid) (P .block-there) in
+            let same : k ≡ receiptKey h (blockAt h n) = key ∙ ap (λ (y : Block). receiptKey h y) i in
+            λ j. receipt (keyOf (same j)) (addressOf (h .front .originator .address)) (i j .response .response .compliance .code)

@@ -4,7 +4,5 @@ pub mod Search
 pub mod Moves
 pub mod Kept
 pub mod Whole
-mod Told
-mod Tests
 mod Shift
-mod Seeking
+pub mod Seeking

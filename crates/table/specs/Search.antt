@@ -4,8 +4,10 @@ use mathlib.Core.Path.{_≡_}
 use mathlib.Core.Bool.{Bool, true, false}
 use mathlib.Core.List.{List, map}
 use lib.ListN.{length, getD}
-use Rattle.order.specs.Values.{Address, addressOf, Key, keyOf}
+use Rattle.order.specs.Values.{Address, addressOf, Key, keyOf, byKey}
+use Rattle.order.specs.declared.Key.{Key as DeclaredKey}
 use Rattle.table.specs.Rows.{usedRecipients, usedRows}
+use Rattle.table.specs.declared.Position.{Position}
 use Rattle.table.specs.declared.Row.{Row}
 use Rattle.table.specs.declared.Table.{Table}
 
@@ -25,3 +27,7 @@ keysOf t = map (λ r. keyOf (r .key)) (usedRows t)
 -- the addresses of a row's recipients
 abbrev pub addressesOf : Row → List Address
 addressesOf r = map (λ x. addressOf (x .address)) (usedRecipients r)
+
+-- where the row with a key stands in a table, or would stand
+abbrev pub Placed : Table → DeclaredKey → Position → Type 0
+Placed t k p = (p .at ≤ t .count) × (p .held ≡ true → p .at < t .count) × Stopped byKey (keyOf k) (keysOf t) (p .at) (p .held)

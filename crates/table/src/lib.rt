@@ -5,7 +5,6 @@ use order::Key;
 
 pub mod codes;
 pub mod rows;
-pub mod well;
 pub mod zero;
 
 // A recipient of a row, with the code that settled each request; 0 where there is none.

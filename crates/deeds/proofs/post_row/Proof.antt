@@ -1,59 +1,55 @@
 -- `deeds::post_row` meets its contract. Assumes nothing.
 use borrow.Author.Needs.{needs}
-use mathlib.Core.Path.{refl, subst}
-use native.Mathlib.Omega.{arith}
-use Rattle.order.specs.Values.{keyOf, byKey}
-use Rattle.table.specs.Rows.{Whole}
-use Rattle.table.specs.Search.{Stopped, keysOf}
-use Rattle.table.specs.Zero.{noRow}
-use Rattle.table.proofs.Parts.{fine-table}
+use borrow.Author.Tests.{eqb-true}
+use Prim.Native.Nat.{ℕ, _<_, _≤_}
+use mathlib.Core.Path.{_≡_, ap, sym, _∙_}
+use mathlib.Core.Bool.{Bool, true}
+use lib.Dec.{leb}
+use Rattle.codec.specs.Answer.{pick}
+use Rattle.codec.specs.Codec.{first}
+use Rattle.header.specs.Table.{addresses}
+use Rattle.table.specs.WellFormed.{wellFormed}
 use Rattle.table.proofs.Whole.{whole}
-use Rattle.arguments.specs.Told.{pendingNo, answerNo, answerPlace}
-use Rattle.deeds.proofs.Boards.{acted-kept}
-use Rattle.deeds.proofs.Ways.{post-twice, post-over, post-new, post-row}
+use Rattle.arguments.specs.Told.{pendingNo, answerNo}
+use Rattle.deeds.proofs.Ways.{post-room, post-acts}
 use Rattle.deeds.proofs.post_row.Statement.{statement}
 use Rattle.deeds.proofs.post_row.Tie as tie
 
-full : (s : tie.Start) → Whole (s .args .t)
-full s = whole (s .args .t) _ (s .good .0)
-
-find-row-requires : tie.Need-find-row-requires
-find-row-requires c κs = fine-table (c .args .t) (c .pre .0) .fits
-
-returns : tie.Need-returns
+-- the answer: the table's form, the arguments, the row, then the lines
+answered : (c : tie.After-refused-if2) → answerNo (c .refused-if2 .result) ≡ first (first (pick (wellFormed (c .before .before .before .before .before .args .t)) (answerNo (c .before .before .before .before .before .args .said)) 30) (pick (c .before .before .before .before .inspect .result .place .held) 22 0)) (pick (leb 32 (c .before .before .before .before .before .args .t .count)) 23 0)
 unfolding pendingNo
-returns c =
-    let s = c .before .before .before in
-    let a = s .args in
-    let e = c .refused .ensures in
-    let f = subst (Stopped byKey (keyOf (a .key)) (keysOf (a .t)) (c .before .before .find-row .result .at)) (c .before .if1 .taken) (c .before .before .find-row .ensures .2) in
-    (acted-kept _ _ _ _ (e .0) (e .2) (post-twice (a .t) (full s) (s .pre .0) (a .key) (a .asked) (a .to) _ noRow f), e .1)
+answered c =
+    let i = c .before .before .before .before in
+    let s = i .before in
+    c .refused-if2 .ensures .0
+    ∙ ap (λ (n : ℕ). first n (pick (leb 32 (s .args .t .count)) 23 0))
+    (c .before .before .refused-if .ensures .0
+    ∙ ap (λ (n : ℕ). first n (pick (i .inspect .result .place .held) 22 0)) (c .before .before .before .judged .ensures .0 ∙ ap (λ (w : Bool). pick w (answerNo (s .args .said)) 30) (i .inspect .ensures .0)))
 
-returns-2 : tie.Need-returns-2
-unfolding pendingNo
-returns-2 c =
-    let s = c .before .before .before .before .before in
-    let a = s .args in
-    let e = c .refused2 .ensures in
-    let f = subst (Stopped byKey (keyOf (a .key)) (keysOf (a .t)) (c .before .before .before .before .find-row .result .at)) (c .before .before .before .if1 .left) (c .before .before .before .before .find-row .ensures .2) in
-    (acted-kept _ _ _ _ (e .0) (e .2) (post-over (a .t) (full s) (s .pre .0) (a .key) (a .asked) (a .to) _ f (fine-table (a .t) (s .pre .0) .fits) (c .before .if2 .taken)), e .1)
+-- where it is done there is room
+room : (c : tie.After-is-done) → c .is-done .result ≡ true → (addresses 15 .check (c .before .before .before .before .before .before .args .to) ≡ 0) × (c .before .before .before .before .before .inspect .result .place .at ≤ c .before .before .before .before .before .before .args .t .count) × (c .before .before .before .before .before .before .args .t .count < 32)
+room c e =
+    let d = c .before in
+    let i = d .before .before .before .before in
+    let s = i .before in
+    post-room (s .args .t) (whole (s .args .t) _ (s .good .0)) (s .args .key) (answerNo (s .args .said)) (i .inspect .result .place) (i .inspect .ensures .1) (s .args .asked) (s .args .to) (s .pre .1) _ (answered d) (eqb-true _ 0 (sym (c .is-done .ensures) ∙ e))
 
 new-row-requires : tie.Need-new-row-requires
-new-row-requires c κs = c .before .before .before .before .pre .3
+new-row-requires c κs e = room c e .0
 
 insert-row-requires : tie.Need-insert-row-requires
-insert-row-requires c κs = (c .before .before .before .before .find-row .ensures .0, omega arith)
+insert-row-requires c κs e = let r = room (c .before) e in (r .1, r .2)
 
-returns-3 : tie.Need-returns-3
-unfolding answerNo answerPlace
-returns-3 c =
-    let s = c .before .before .before .before .before .before in
-    let a = s .args in
-    let r = c .before .new-row .ensures in
-    let i = c .insert-row .ensures in
-    let f = subst (Stopped byKey (keyOf (a .key)) (keysOf (a .t)) (c .before .before .before .before .before .find-row .result .at)) (c .before .before .before .before .if1 .left) (c .before .before .before .before .before .find-row .ensures .2) in
-    let good = post-row (a .t) (full s) (s .pre .0) (a .key) (a .asked) (a .to) (s .pre .1) (s .pre .2) (s .pre .3) (c .before .new-row .result) (r .0) (r .1) (r .2) (r .3) (r .4) in
-    (post-new (a .t) (full s) (s .pre .0) (a .key) (a .asked) (a .to) _ f (fine-table (a .t) (s .pre .0) .fits) (c .before .new-row .result) _ (omega arith) (r .0) (r .1) (r .3) good (i .0) (i .1) (whole (c .insert-row .result) _ (c .insert-row .ok)), refl)
+returns : tie.Need-returns
+returns c =
+    let d = c .before .before .before in
+    let i = d .before .before .before .before in
+    let s = i .before in
+    let done = c .before .before .is-done .ensures in
+    let m = c .insert-row .ensures in (
+      post-acts (s .args .t) (whole (s .args .t) _ (s .good .0)) (s .args .key) (answerNo (s .args .said)) (i .inspect .result .place) (i .inspect .ensures .1) (s .args .asked) (s .args .to) (s .pre .1) _ (answered d) _ (λ e. m .0 (done ∙ e)) (c .before .new-row .result) (λ e. c .before .new-row .ensures (done ∙ e)) (λ e. m .1 (done ∙ e)) (whole (c .insert-row .result) _ (c .insert-row .ok)),
+      d .refused-if2 .ensures .1,
+    )
 
 pub post-row-spec : {M : Type 1} → statement M
-post-row-spec = tie.close (tie.spec find-row-requires (λ c κs. search needs) returns (λ c κs. search needs) returns-2 new-row-requires insert-row-requires returns-3)
+post-row-spec = tie.close (tie.spec (λ c κs. search needs) (λ c κs. search needs) (λ c κs. search needs) (λ c κs. search needs) (λ c κs. search needs) new-row-requires insert-row-requires returns)

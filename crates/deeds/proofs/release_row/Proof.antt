@@ -1,39 +1,40 @@
 -- `deeds::release_row` meets its contract. Assumes nothing.
 use borrow.Author.Needs.{needs}
-use mathlib.Core.Path.{refl, subst}
-use borrow.Author.Tests.{not-true, not-false}
-use Rattle.order.specs.Values.{keyOf, byKey}
-use Rattle.table.specs.Search.{Stopped, keysOf}
-use Rattle.table.specs.Zero.{noRow}
-use Rattle.table.proofs.Parts.{fine-table}
+use borrow.Author.Tests.{eqb-true}
+use Prim.Native.Nat.{ℕ}
+use mathlib.Core.Path.{_≡_, ap, sym, _∙_}
+use mathlib.Core.Bool.{Bool, not}
+use Rattle.codec.specs.Answer.{pick}
+use Rattle.codec.specs.Codec.{first}
+use Rattle.table.specs.WellFormed.{wellFormed}
 use Rattle.table.proofs.Whole.{whole}
-use Rattle.arguments.specs.Told.{pendingNo, answerNo, answerPlace}
-use Rattle.deeds.proofs.Boards.{acted-kept}
-use Rattle.deeds.proofs.Ways.{release-none, release-done}
+use Rattle.arguments.specs.Told.{pendingNo, answerNo}
+use Rattle.deeds.proofs.Ways.{release-room, release-acts}
 use Rattle.deeds.proofs.release_row.Statement.{statement}
 use Rattle.deeds.proofs.release_row.Tie as tie
 
-find-row-requires : tie.Need-find-row-requires
-find-row-requires c κs = fine-table (c .args .t) (c .pre) .fits
-
-returns : tie.Need-returns
+-- the answer: the table's form, the arguments, then the row
+answered : (c : tie.After-refused-if) → answerNo (c .refused-if .result) ≡ first (pick (wellFormed (c .before .before .before .args .t)) (answerNo (c .before .before .before .args .said)) 30) (pick (not (c .before .before .inspect .result .place .held)) 26 0)
 unfolding pendingNo
-returns c =
-    let s = c .before .before .before in
-    let e = c .refused .ensures in
-    let f = subst (Stopped byKey (keyOf (s .args .key)) (keysOf (s .args .t)) (c .before .before .find-row .result .at)) (not-true _ (c .before .if1 .taken)) (c .before .before .find-row .ensures .2) in
-    (acted-kept _ _ _ _ (e .0) (e .2) (release-none (s .args .t) (whole (s .args .t) _ (s .good .0)) (s .pre) (s .args .key) _ f), e .1)
+answered c =
+    c .refused-if .ensures .0
+    ∙ ap (λ (n : ℕ). first n (pick (not (c .before .before .inspect .result .place .held)) 26 0)) (c .before .judged .ensures .0 ∙ ap (λ (w : Bool). pick w (answerNo (c .before .before .before .args .said)) 30) (c .before .before .inspect .ensures .0))
 
 remove-row-requires : tie.Need-remove-row-requires
-remove-row-requires c κs = (c .before .find-row .ensures .1 (not-false _ (c .if1 .left)), fine-table (c .before .before .args .t) (c .before .before .pre) .fits)
+remove-row-requires c κs e =
+    let d = c .before in
+    let s = d .before .before .before in
+    release-room (s .args .t) (whole (s .args .t) _ (s .good .0)) (s .args .key) (answerNo (s .args .said)) (d .before .before .inspect .result .place) (d .before .before .inspect .ensures .1) _ (answered d) (eqb-true _ 0 (sym (c .is-done .ensures) ∙ e))
 
-returns-2 : tie.Need-returns-2
-unfolding answerNo answerPlace
-returns-2 c =
-    let s = c .before .before .before in
-    let e = c .remove-row .ensures in
-    let f = subst (Stopped byKey (keyOf (s .args .key)) (keysOf (s .args .t)) (c .before .before .find-row .result .at)) (not-false _ (c .before .if1 .left)) (c .before .before .find-row .ensures .2) in
-    (release-done (s .args .t) (whole (s .args .t) _ (s .good .0)) (s .pre) (s .args .key) _ _ noRow f (e .0) (e .1) (whole (c .remove-row .result) _ (c .remove-row .ok)), refl)
+returns : tie.Need-returns
+returns c =
+    let d = c .before .before in
+    let s = d .before .before .before in
+    let done = c .before .is-done .ensures in
+    let m = c .remove-row .ensures in (
+      release-acts (s .args .t) (whole (s .args .t) _ (s .good .0)) (s .args .key) (answerNo (s .args .said)) (d .before .before .inspect .result .place) (d .before .before .inspect .ensures .1) _ _ (answered d) (λ e. m .0 (done ∙ e)) (λ e. m .1 (done ∙ e)) (whole (c .remove-row .result) _ (c .remove-row .ok)),
+      d .refused-if .ensures .1,
+    )
 
 pub release-row-spec : {M : Type 1} → statement M
-release-row-spec = tie.close (tie.spec find-row-requires (λ c κs. search needs) returns remove-row-requires returns-2)
+release-row-spec = tie.close (tie.spec (λ c κs. search needs) (λ c κs. search needs) (λ c κs. search needs) (λ c κs. search needs) remove-row-requires returns)

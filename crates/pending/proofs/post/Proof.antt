@@ -1,61 +1,23 @@
 -- `pending::post` meets its contract. Assumes nothing.
 use borrow.Author.Needs.{needs}
-use mathlib.Core.Path.{_≡_, ap, ap₂, sym, _∙_}
-use mathlib.Core.Bool.{true}
-use Rattle.codec.specs.Answer.{pick}
-use Rattle.codec.specs.Codec.{viewed}
-use Rattle.codec.proofs.ListEnds.{count-most}
-use Rattle.header.specs.Table.{block, blocks}
-use Rattle.header.specs.Zero.{noBlock}
-use Rattle.writer.proofs.Parts.{blocks-legal}
-use Rattle.table.specs.WellFormed.{wellFormed}
-use Rattle.table.proofs.Whole.{whole}
-use Rattle.arguments.specs.Arguments.{postingFault}
-use Rattle.arguments.specs.Told.{answerNo, answerPlace}
-use Rattle.arguments.proofs.Told.{answer-done, answer-bad}
-use Rattle.arguments.proofs.Names.{posts}
-use Rattle.pending.proofs.Dids.{passed, post-refused, post-asks, post-did}
+use Rattle.pending.proofs.Dids.{post-asks, post-did}
 use Rattle.pending.proofs.post.Statement.{statement}
 use Rattle.pending.proofs.post.Tie as tie
 
--- what is judged: the table's form, then the arguments
-said : (c : tie.After-judged) → answerNo (c .judged .result) ≡ pick (wellFormed (c .before .before .before .args .t)) (postingFault (c .before .before .before .args .h) (c .before .before .before .args .number) (c .before .before .before .args .count .0)) 30
-said c = c .judged .ensures .0 ∙ ap₂ (λ w f. pick w f 30) (c .before .before .well-formed .ensures) (c .before .check-posting .ensures .0)
-
-judged-requires : tie.Need-judged-requires
-judged-requires c κs = c .check-posting .ensures .1
-
-returns : tie.Need-returns
-returns c =
-    let d = c .before .before .before in
-    let s = d .before .before .before in
-    let a = s .args in
-    let k = c .kept .ensures in
-    (post-refused (a .t) (a .h) (a .number) (a .count .0) (whole (a .t) _ (s .good .0)) _ _ (said d) (answer-bad (d .judged .result) (c .before .before .match .keys2)) (k .0) (k .1), ap answerPlace (k .0) ∙ d .judged .ensures .1)
-
--- both are fine
-fine : (c : tie.After-enum-told) → (wellFormed (c .before .before .before .before .before .args .t) ≡ true) × (postingFault (c .before .before .before .before .before .args .h) (c .before .before .before .before .before .args .number) (c .before .before .before .before .before .args .count .0) ≡ 0)
-fine c = passed _ _ (sym (said (c .before .before)) ∙ answer-done (c .before .before .judged .result) (c .before .match .keys1))
-
-block-at-requires : tie.Need-block-at-requires
-unfolding blocks viewed
-block-at-requires c κs =
-    let a = c .before .before .before .before .before .args in
-    let p = posts (a .h) (a .number) (a .count .0) (fine c .1) in
-    (p .block-there, count-most noBlock block 16 15 _ _ (blocks-legal (a .h) (p .valid .fields)))
+check-posting-requires : tie.Need-check-posting-requires
+check-posting-requires c κs = c .before .block-at .ensures
 
 post-row-requires : tie.Need-post-row-requires
 post-row-requires c κs =
-    let d = c .before .before in
-    let a = d .before .before .before .before .before .args in
-    let p = post-asks (a .t) (a .h) (a .number) (a .count .0) _ (c .before .block-at .ensures) _ (c .posting-key .ensures) (posts (a .h) (a .number) (a .count .0) (fine d .1)) in
-    (fine d .0, p .0, p .1, p .2)
+    let a = c .before .before .before .args in
+    let e = c .check-posting .ensures in
+    (e .1, post-asks (a .h) (a .number) (a .count .0) _ (c .before .before .block-at .ensures) _ (c .before .posting-key .ensures) _ (e .0))
 
-returns-2 : tie.Need-returns-2
-returns-2 c =
-    let d = c .before .before .before in
-    let a = d .before .before .before .before .before .args in
-    (post-did (a .t) (a .h) (a .number) (a .count .0) _ (c .before .before .block-at .ensures) _ (c .before .posting-key .ensures) (posts (a .h) (a .number) (a .count .0) (fine d .1)) (fine d .0) (fine d .1) _ _ (c .post-row .ensures .0), c .post-row .ensures .1)
+returns : tie.Need-returns
+returns c =
+    let d = c .before in
+    let a = d .before .before .before .args in
+    (post-did (a .h) (a .number) (a .count .0) _ (d .before .before .block-at .ensures) _ (d .before .posting-key .ensures) (a .t) _ _ _ (d .check-posting .ensures .0) (c .post-row .ensures .0), c .post-row .ensures .1)
 
 pub post-spec : {M : Type 1} → statement M
-post-spec = tie.close (tie.spec (λ c κs. search needs) (λ c κs. search needs) judged-requires (λ c. search needs) (λ c. search needs) (λ c κs. search needs) returns block-at-requires (λ c κs. search needs) post-row-requires returns-2)
+post-spec = tie.close (tie.spec (λ c κs. search needs) (λ c κs. search needs) check-posting-requires post-row-requires returns)

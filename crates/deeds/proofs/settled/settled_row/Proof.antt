@@ -23,7 +23,7 @@ returns c =
     let s = c .before .before .before in
     let e = c .refusal .ensures in
     let g = row-stranger (s .args .t1) (s .pre .0) (s .args .from) (s .args .code) _ (subst (Stopped byAddress (addressOf (c .before .before .before .args .from)) (addressesOf (c .before .before .before .args .t1)) (c .before .before .find-recipient .result .at)) (not-true _ (c .before .if1 .taken)) (c .before .before .find-recipient .ensures .2)) in
-    (e .0 ∙ g .0, e .1, refl, g .1, s .pre .0)
+    (e .0 ∙ g .0, e .1, refl, g .1, s .pre .0, λ r. refl)
 
 mul-x : tie.Need-mul-x
 mul-x c = let l : length (c .before .before .args .t1 .recipients) ≡ 16 = search (needs, unmapped) in let m = fine-row (c .before .before .args .t1) (c .before .before .pre .0) .most in let k = (c .before .find-recipient .ensures .1 (not-false _ (c .if1 .left))) in search needs
@@ -41,7 +41,7 @@ returns-2 c =
     let e = c .refusal2 .ensures in
     let q = c .before .before .settle .ensures .1 in
     let g = row-shut (s .args .t1) (s .pre .0) (s .args .from) (s .args .code) _ _ (subst (Stopped byAddress (addressOf (c .before .before .before .before .before .before .before .args .from)) (addressesOf (c .before .before .before .before .before .before .before .args .t1)) (c .before .before .before .before .before .before .find-recipient .result .at)) (not-false _ (c .before .before .before .before .before .if1 .left)) (c .before .before .before .before .before .before .find-recipient .ensures .2)) (q ∙ chosen (c .before .before .settle .result .opened) _ (not-true (c .before .before .settle .result .opened) (c .before .if2 .taken))) in
-    (e .0 ∙ g .0, e .1, refl, g .1, s .pre .0)
+    (e .0 ∙ g .0, e .1, refl, g .1, s .pre .0, λ r. refl)
 
 replace-recipient-requires : tie.Need-replace-recipient-requires
 replace-recipient-requires c κs = ((c .before .before .before .before .before .find-recipient .ensures .1 (not-false _ (c .before .before .before .before .if1 .left))), fine-row (c .before .before .before .before .before .before .args .t1) (c .before .before .before .before .before .before .pre .0) .most)
@@ -59,6 +59,7 @@ returns-3 c =
       e .0,
       row-after (s .args .t1) (s .pre .0) (s .args .from) (s .args .code) _ _ f _ (q .0) z _ (e .0) (e .1) (e .2) (e .3),
       row-kept (s .args .t1) (s .pre .0) (s .args .from) (s .args .code) _ _ f _ (q .0) z _ (e .0) (e .1) (e .2) (e .3),
+      λ r. absurd (r refl),
     )
 
 pub settled-row-spec : {M : Type 1} → statement M
