@@ -3,7 +3,7 @@
 ghost use mathlib.Core.Path.{_≡_};
 ghost use mathlib.Core.Bool.{true, false};
 ghost use Prim.Native.Nat.{_<_};
-ghost use Rattle.order.specs.Values.{comparisonOf};
+ghost use Rattle.order.specs.Values.{keyOf, byKey};
 ghost use Rattle.table.specs.Search.{Placed};
 ghost use Rattle.table.specs.WellFormed.{wellFormed};
 ghost use Rattle.inspect.specs.Places as places;
@@ -33,15 +33,16 @@ fn ill_formed() -> Seen
     }
 }
 
-// The place so far, one row further. A place that was found stays.
-fn further(p: Position, i: usize, c: Comparison) -> Position
+// The place so far, one row further. A place that was found stays, and no key is compared any more.
+fn further(p: Position, i: usize, key: Key, other: Key) -> Position
     requires { ⌜ i < 32 ⌝ }
-    ensures { λ r. ⌜ r ≡ places.further i (comparisonOf c) p ⌝ }
+    ensures { λ r. ⌜ r ≡ places.further i (byKey (keyOf key) (keyOf other)) p ⌝ }
 {
     let at = p.at;
     if at < i {
         return p;
     }
+    let c = compare_keys(key, other);
     match c {
         Comparison::Less => p,
         Comparison::Same => Position { at: i, held: true },
@@ -73,21 +74,11 @@ pub fn inspect(t: Table, key: Key) -> Seen
         if !key_follows(i, last.key, row.key) {
             return ill_formed();
         }
-        let c = compare_keys(key, row.key);
-        place = further(place, i, c);
+        place = further(place, i, key, row.key);
         i += 1;
     }
     Seen {
         well: true,
         place: place,
     }
-}
-
-// Whether a table is well formed: the same look, with no key sought in earnest.
-pub fn well_formed(t: Table) -> bool
-    ensures { λ r. ⌜ r ≡ wellFormed t ⌝ }
-{
-    let none = table::zero::no_row();
-    let seen = inspect(t, none.key);
-    seen.well
 }

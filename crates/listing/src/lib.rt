@@ -8,6 +8,7 @@ ghost use Rattle.listing.specs.Listing.{rejected, listing, outputAfter, 
 ghost use Rattle.listing.specs.Puts.{Puts};
 use bits::BitPlace;
 use bits::OctetSize;
+use inspect::inspect;
 use table::Table;
 
 pub mod addresses;
@@ -69,11 +70,14 @@ fn put_listed(out: &mut [u8], t: Table, number: u32) -> OctetSize
 
 // Writes a row of the listing: the table has to be well formed (30), then there has to be room (11);
 // only then is the first octet written. Done, the output begins with the row's text and is otherwise
-// as it was; refused, it is as it was.
+// as it was; refused, it is as it was. (The look at the table seeks no key in earnest.)
 pub fn list_row(t: Table, number: u32, out: &mut [u8]) -> Listed
     ensures { λ r. ⌜ (told r ≡ listing t number (length (now (out .entry)))) × (now (out .exit) ≡ outputAfter (see t) number (listing t number (length (now (out .entry)))) (now (out .entry))) ⌝ }
 {
-    if !inspect::well_formed(t) {
+    let none = table::zero::no_row();
+    let seen = inspect(t, none.key);
+    let well = seen.well;
+    if !well {
         return refusal(ListingFault::IllFormed);
     }
     let size = listed_length(t, number);

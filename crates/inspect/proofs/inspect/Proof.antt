@@ -2,7 +2,7 @@
 use borrow.Author.Needs.{needs}
 use borrow.Author.Tests.{not-true, not-false, le-leb, lt-leb}
 use Prim.Native.Nat.{_-_, _<_, _≤_}
-use mathlib.Core.Path.{_≡_, sym, subst, _∙_}
+use mathlib.Core.Path.{_≡_, refl, sym, subst, _∙_}
 use mathlib.Core.Bool.{Bool, true, false, _&&_, false≢true}
 use mathlib.Core.List.{map}
 use native.Mathlib.Omega.{arith}
@@ -64,13 +64,13 @@ returns-3 c =
 
 loop-again : tie.Need-loop-again Inv-loop μ-loop
 loop-again c =
-    let d = c .before .before in
+    let d = c .before in
     let s = d .before .before .before .before .before .before .before .before .before .before in
     let i = d .before .before .before .before .before .before .before .before .loop .inv in
     let n = d .before .before .before .before .before .before .before .before .before .if1 .left in
     let e = full s in (
       lined-more _ _ _ _ _ _ (i .0) (omega arith) _ (omega arith) _ (d .before .before .before .one-less .ensures) (sym (d .before .before .before .before .before .row-fine .ensures) ∙ not-false _ (d .before .before .before .before .if2 .left)) (sym (d .before .key-follows .ensures) ∙ not-false _ (d .if3 .left)),
-      subst (Sought byKey (λ r. keyOf (r .key)) (keyOf (s .args .key)) _ _ _) (sym (c .further .ensures)) (sought-more _ _ _ _ _ (omega arith) _ _ (i .1) _ (omega arith) _ (sym (c .before .compare-keys .ensures))),
+      subst (Sought byKey (λ r. keyOf (r .key)) (keyOf (s .args .key)) _ _ _) (sym (c .further .ensures)) (sought-more _ _ _ _ _ (omega arith) _ _ (i .1) _ (omega arith) _ refl),
     )
 
 returns-4 : tie.Need-returns-4 Inv-loop μ-loop
@@ -83,4 +83,4 @@ returns-4 c =
     )
 
 pub inspect-spec : {M : Type 1} → statement M
-inspect-spec = tie.close (tie.spec Inv-loop μ-loop (λ c κs. search needs) returns (λ c. search needs) loop-holds (λ c. search needs) (λ c. search needs) (λ c κs. search needs) (λ c κs. search needs) returns-2 (λ c κs. search needs) (λ c. search needs) (λ c. search needs) (λ c κs. search needs) (λ c κs. search needs) returns-3 (λ c κs. search needs) (λ c κs. search needs) (λ c. search needs) (λ c. search needs) loop-again returns-4)
+inspect-spec = tie.close (tie.spec Inv-loop μ-loop (λ c κs. search needs) returns (λ c. search needs) loop-holds (λ c. search needs) (λ c. search needs) (λ c κs. search needs) (λ c κs. search needs) returns-2 (λ c κs. search needs) (λ c. search needs) (λ c. search needs) (λ c κs. search needs) (λ c κs. search needs) returns-3 (λ c κs. search needs) (λ c. search needs) (λ c. search needs) loop-again returns-4)
