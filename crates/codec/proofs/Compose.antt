@@ -44,6 +44,10 @@ pub stopped : {A : Type 0} (c : Codec A) (bs : List Bool) (p : ℕ) (x : A) (st 
 unfolding answer
 stopped c bs p x st s = rw (s .is) (s .read)
 
+-- a refusal that another function hands on
+pub stopped-as : {A : Type 0} (c : Codec A) (bs : List Bool) (p : ℕ) (x : A) (st u : Step) → st ≡ u → Stops c bs p u → answer st x ≡ c .read bs p
+stopped-as c bs p x st u e s = ap (λ (t : Step). answer t x) e ∙ stopped c bs p x u s
+
 module _ (bs : List Bool) (p : ℕ) where
   -- a field that was got, where a pattern has taken it apart
   pub number-got : (c : Codec ℕ) (n : Number) (x : ℕ) (q : BitPlace) → numberAnswer n ≡ c .read bs p → n ≡ Number.Got x q → Gets c bs p x (q .0)

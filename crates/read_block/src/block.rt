@@ -66,6 +66,18 @@ pub struct BlocksRead {
     pub blocks: Blocks,
 }
 
+// The refusal that the head ended with; what it has read is not looked at.
+fn stopped_head(step: Step) -> HeadRead
+    ensures { λ r. ⌜ r .step ≡ step ⌝ }
+{
+    HeadRead {
+        step: step,
+        format: no_format(),
+        handling: no_handling(),
+        times: NO_TIMES,
+    }
+}
+
 fn read_head(s: &[u8], at: BitPlace) -> HeadRead
     requires { ⌜ length (now s) ≤ datagramLimit ⌝ }
     ensures { λ r. ⌜ answer (r .step) (r .format, (r .handling, r .times)) ≡ (format & handling & times) .read (bitsOf (now (s .entry))) (at .0) ⌝ }
@@ -74,34 +86,19 @@ fn read_head(s: &[u8], at: BitPlace) -> HeadRead
     let format = a.format;
     let step = a.step;
     let Step::Next(at) = step else {
-        return HeadRead {
-            step: step,
-            format: no_format(),
-            handling: no_handling(),
-            times: NO_TIMES,
-        };
+        return stopped_head(step);
     };
     let a = read_handling(s, at);
     let handling = a.handling;
     let step = a.step;
     let Step::Next(at) = step else {
-        return HeadRead {
-            step: step,
-            format: no_format(),
-            handling: no_handling(),
-            times: NO_TIMES,
-        };
+        return stopped_head(step);
     };
     let a = read_times(s, at);
     let times = a.times;
     let step = a.step;
     let Step::Next(at) = step else {
-        return HeadRead {
-            step: step,
-            format: no_format(),
-            handling: no_handling(),
-            times: NO_TIMES,
-        };
+        return stopped_head(step);
     };
     HeadRead {
         step: Step::Next(at),

@@ -221,13 +221,14 @@ pub fn read_times(s: &[u8], at: BitPlace) -> TimesRead
     requires { ⌜ length (now s) ≤ datagramLimit ⌝ }
     ensures { λ r. ⌜ answer (r .step) (r .times) ≡ times .read (bitsOf (now (s .entry))) (at .0) ⌝ }
 {
+    let none = NO_TIMES;
     let a = read_optional_stamp(s, at);
     let origin = a.stamp;
     let step = a.step;
     let Step::Next(at) = step else {
         return TimesRead {
             step: step,
-            times: NO_TIMES,
+            times: none,
         };
     };
     let a = read_optional_dtg(s, at);
@@ -236,7 +237,7 @@ pub fn read_times(s: &[u8], at: BitPlace) -> TimesRead
     let Step::Next(at) = step else {
         return TimesRead {
             step: step,
-            times: NO_TIMES,
+            times: none,
         };
     };
     let a = read_optional_requests(s, at);
@@ -245,7 +246,7 @@ pub fn read_times(s: &[u8], at: BitPlace) -> TimesRead
     let Step::Next(at) = step else {
         return TimesRead {
             step: step,
-            times: NO_TIMES,
+            times: none,
         };
     };
     TimesRead {

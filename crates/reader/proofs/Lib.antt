@@ -1,4 +1,3 @@
 mod FillBits
 mod Judging
-mod Stops
 pub mod Accepts

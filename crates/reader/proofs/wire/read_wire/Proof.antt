@@ -1,9 +1,8 @@
 -- `reader::wire::read_wire` meets its contract. Assumes nothing.
 use borrow.Author.Needs.{needs}
 use mathlib.Core.Path.{refl}
-use Rattle.codec.proofs.Compose.{getting, stopping, shape-stop, here-stop, group-then-stop, group-stop}
+use Rattle.codec.proofs.Compose.{getting, stopping, shape-stop, here-stop, group-then-stop, group-stop, stopped-as}
 use Rattle.header.specs.Table.{wire}
-use Rattle.reader.proofs.Stops.{stopped-as}
 use Rattle.reader.proofs.wire.read_wire.Statement.{statement}
 use Rattle.reader.proofs.wire.read_wire.Tie as tie
 
