@@ -1,26 +1,23 @@
 -- The parts of a valid record that a call names are there and legal. Assumes nothing.
-use Prim.Native.Nat.{ℕ, zero, suc, _<_, _≤_}
-use mathlib.Core.Path.{_≡_, refl, sym, _∙_}
+use Prim.Native.Nat.{ℕ, _<_}
+use mathlib.Core.Path.{_≡_, refl}
 use mathlib.Core.Bool.{Bool, true, false, not, _&&_, _||_}
-use mathlib.Core.List.{List, [], _∷_}
-use lib.ListN.{length, take, getD, length-take}
+use lib.ListN.{length, getD, length-take}
 use lib.Seq.{getD-take}
 use lib.Dec.{leb, lit<, lit≤}
 use native.Mathlib.Omega.{arith}
-use Rattle.codec.specs.Codec.{Codec, first, number, flag, tested, present, viewed, _thenBy_, _closedBy_}
-use Rattle.codec.proofs.Fields.{and-left, and-right}
+use Rattle.codec.specs.Codec.{Codec, first, number, flag, present, viewed, _thenBy_}
+use Rattle.codec.proofs.Fields.{and-left}
 use Rattle.codec.proofs.Sequences.{first-zero}
 use Rattle.codec.proofs.ListLaws.{fine-legal}
 use borrow.Author.Tests.{leb-true}
 use Rattle.codec.proofs.ListEnds.{whole-array, count-most, entry-legal}
 use Rattle.header.specs.Zero.{noAddress, noStamp, noResponse, noBlock}
-use Rattle.header.specs.Table.{maybe, address, addresses, originator, recipients, front, stamp, format, handling, optionalStamp, optionalDtg, optionalRequests, times, compliance, optionalText, response, optionalResponse, optionalReferences, block, blocks}
+use Rattle.header.specs.Table.{maybe, address, addresses, originator, recipients, front, stamp, format, handling, optionalStamp, times, compliance, response, optionalResponse, block, blocks}
 use Rattle.header.specs.Rules as Rules
-use Rattle.header.specs.Rules.{_⇒_, ruleA, ruleB, ruleC, ruleD, ruleE, ruleF, ruleG, ruleH, ruleI, all, usedBlocks, settingOf, rulesKept}
-use Rattle.header.specs.declared.Setting.{Setting}
+use Rattle.header.specs.Rules.{_⇒_, ruleA, ruleI, all, usedBlocks, settingOf, rulesKept}
 use Rattle.header.specs.declared.Front.{Front}
 use Rattle.header.specs.declared.Block.{Block}
-use Rattle.header.specs.declared.Blocks.{Blocks}
 use Rattle.header.specs.declared.Header.{Header}
 use Rattle.header.proofs.Legal.{front-recipients, addressees-legal}
 use Rattle.table.proofs.Parts.{all-at}

@@ -1,9 +1,8 @@
 -- What a call names that its arguments do not refuse: its message is the key, and a receipt's answerer is its originator. Assumes nothing.
-use Prim.Native.Nat.{ℕ, zero, suc, _<_, _≤_}
-use mathlib.Core.Path.{_≡_, refl, ap, sym, _∙_}
-use mathlib.Core.Bool.{Bool, true, false, cond, _&&_}
-use mathlib.Core.List.{List}
-use mathlib.Core.Logic.{_⊎_, inl, inr}
+use Prim.Native.Nat.{ℕ, zero, suc, _<_}
+use mathlib.Core.Path.{_≡_, refl, ap, _∙_}
+use mathlib.Core.Bool.{Bool, true, cond, _&&_}
+use mathlib.Core.Logic.{inr}
 use mathlib.Core.Option.{Option, none, some}
 use lib.ListN.{getD}
 use lib.Dec.{leb, eqb, lit<}
@@ -16,14 +15,13 @@ use Rattle.codec.proofs.ListLaws.{fine-legal}
 use Rattle.codec.proofs.Sequences.{first-zero}
 use Rattle.header.specs.Table.{address, stamp, block}
 use Rattle.header.specs.Zero.{noBlock}
-use Rattle.header.specs.declared.Block.{Block}
 use Rattle.header.specs.declared.Header.{Header}
-use Rattle.writer.specs.Writing.{faultOf, fieldsFault}
+use Rattle.writer.specs.Writing.{faultOf}
 use Rattle.writer.proofs.Parts.{front-legal, blocks-legal}
 use Rattle.writer.proofs.Valid.{Valid, valid-parts}
-use Rattle.order.specs.Values.{Address, addressOf, Key, keyOf, keyFault}
-use Rattle.order.specs.Requests.{anyOf, askOf}
-use Rattle.order.specs.Calls.{Deed, Call, key, post, receipt, release}
+use Rattle.order.specs.Values.{Address, Key, keyOf, keyFault}
+use Rattle.order.specs.Requests.{askOf}
+use Rattle.order.specs.Calls.{Deed, key, post, receipt, release}
 use Rattle.order.specs.declared.Key.{Key as DeclaredKey}
 use Rattle.arguments.specs.Arguments.{Arguments, posting, receiving, releasing, hasBlock, blockAt, asks, someRecipient, oneRecipient, firstRecipient, postingKey, receiptKey, postingFault, receiptFault, named, callOf, legalKey, message, answerer}
 use Rattle.arguments.proofs.Legal.{front-originator, front-recipient, block-origin, block-response, block-legal, originator-there, origin-there}

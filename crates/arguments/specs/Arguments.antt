@@ -1,8 +1,8 @@
 -- What a call is given, and what its arguments alone say: the refusals that need no table, or what the call names.
 use Prim.Native.Nat.{ℕ, zero, suc}
-use mathlib.Core.Bool.{Bool, true, false, cond, _&&_, _||_}
+use mathlib.Core.Bool.{Bool, cond, _&&_}
 use mathlib.Core.List.{List, [], map}
-use mathlib.Core.Logic.{_⊎_, inl, inr}
+use mathlib.Core.Logic.{inl, inr}
 use mathlib.Core.Option.{Option, none, some}
 use lib.ListN.{take, getD}
 use lib.Dec.{leb, eqb}
@@ -15,7 +15,7 @@ use Rattle.header.specs.declared.Block.{Block}
 use Rattle.header.specs.declared.Header.{Header}
 use Rattle.writer.specs.Writing.{faultOf}
 use Rattle.order.specs.Values.{Address, addressOf, Key, keyOf, keyFault}
-use Rattle.order.specs.Requests.{Ask, anyOf, askOf}
+use Rattle.order.specs.Requests.{anyOf, askOf}
 use Rattle.order.specs.Calls.{Deed, post, receipt, release, Call}
 use Rattle.order.specs.declared.Key.{Key as DeclaredKey}
 

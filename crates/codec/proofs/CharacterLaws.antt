@@ -1,7 +1,7 @@
 -- The characters of a text have a codec's laws, for every maximum. Assumes nothing.
 use Prim.Native.Nat.{ℕ, min, zero, suc, _+_, _*_, _≤_}
 use mathlib.Core.Path.{_≡_, refl, ap, subst, subst₂, _∙_}
-use mathlib.Core.Bool.{Bool, true, false, _&&_}
+use mathlib.Core.Bool.{Bool, true, false}
 use mathlib.Core.List.{List, [], _∷_, _++_, append-assoc}
 use lib.ListN.{length, drop, length-append}
 use lib.Dec.{leb, eqb, lit<, lit≤, leb·zero}
@@ -11,7 +11,7 @@ use native.Mathlib.Omega.{arith}
 use Rattle.bits.specs.Bits.{lowBits, weight}
 use Rattle.bits.proofs.NumberBits.{length-lowBits}
 use Rattle.codec.specs.Answer.{Answer, got, refused, next, pick}
-use Rattle.codec.specs.Codec.{number, first, tested}
+use Rattle.codec.specs.Codec.{number, tested}
 use Rattle.codec.specs.Characters.{character, characters, readCharacters, writeCharacters, legalCharacters}
 use Rattle.codec.specs.Lists.{some}
 use Rattle.codec.proofs.Lawful.{Accepted, Lawful, behind, never}

@@ -1,25 +1,23 @@
 -- How the readings, writings, checks and ends of fields make those of a group. The proofs of functions that go field by field cite the rule sets.
 -- Each law's middle terms stand in a premise that a callee's contract or a pattern proves as it stands, so that `search` finds them. Assumes nothing.
-use Prim.Native.Nat.{ℕ, zero, suc, _+_}
+use Prim.Native.Nat.{ℕ, zero, suc}
 use mathlib.Core.Path.{_≡_, refl, ap, ap₂, sym, _∙_}
 use mathlib.Core.Bool.{Bool, true, false}
-use mathlib.Core.List.{List, _++_}
-use lib.ListN.{length, length-append}
-use native.Mathlib.Nat.{add-assoc}
+use mathlib.Core.List.{List}
+use lib.ListN.{length-append}
 use native.Mathlib.Omega.{arith}
 use denote.Enum.Declared.{tagOf}
 use Rattle.bits.specs.Bits.{bitsOf, splice}
 use Rattle.bits.specs.declared.BitPlace.{BitPlace}
 use Rattle.bits.proofs.Splices.{splice-splice, splice-nil}
-use Rattle.codec.specs.Answer.{Answer, got, refused, next}
+use Rattle.codec.specs.Answer.{got, refused, next}
 use Rattle.codec.specs.Codec.{Codec, first, same, must, number, nothing, _thenBy_, viewed, present, tested, flag, _closedBy_}
-use Rattle.codec.specs.Refusals.{faultNo, answer, numberAnswer, flagAnswer, numberStep, flagStep, checkNo}
+use Rattle.codec.specs.Refusals.{faultNo, answer, numberAnswer, flagAnswer, numberStep, flagStep}
 use Rattle.codec.specs.Writes.{Writes}
 use Rattle.codec.specs.declared.Fault.{Fault}
 use Rattle.codec.specs.declared.Number.{Number}
 use Rattle.codec.specs.declared.Flag.{Flag}
 use Rattle.codec.specs.declared.Step.{Step}
-use Rattle.codec.specs.declared.Check.{Check}
 use Rattle.codec.proofs.Number as numbers
 use Rattle.codec.proofs.Flag as flags
 use Rattle.codec.proofs.Step as step

@@ -10,7 +10,7 @@ use borrow.Author.Tests.{leb-true, le-leb}
 use native.Mathlib.Omega.{arith}
 use Rattle.bits.specs.Bits.{lowBits, value, weight}
 use Rattle.bits.proofs.NumberBits.{length-lowBits, value-lowBits-lt, lowBits-value-at}
-use Rattle.codec.specs.Answer.{Answer, got, refused, pick}
+use Rattle.codec.specs.Answer.{got, refused, pick}
 use Rattle.codec.specs.Codec.{number, readNumber, within, flag, firstBit, nothing}
 use Rattle.codec.proofs.Lawful.{Accepted, Lawful, behind, never}
 

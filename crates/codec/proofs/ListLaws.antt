@@ -1,5 +1,5 @@
 -- Lists with recurrence bits, and lists in the cells of an array, have a codec's laws, for any lawful entry. Assumes nothing.
-use Prim.Native.Nat.{ℕ, min, zero, suc, _+_, _-_, _<_, _≤_}
+use Prim.Native.Nat.{ℕ, zero, suc, _-_, _<_, _≤_}
 use mathlib.Core.Path.{_≡_, refl, ap, ap₂, sym, _∙_}
 use mathlib.Core.Bool.{Bool, true, false, _&&_}
 use mathlib.Core.List.{List, [], _∷_, _++_, map}

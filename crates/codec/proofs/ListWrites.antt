@@ -1,6 +1,6 @@
 -- A legal list in an array, written entry by entry: every one but the last with the recurrence bit 1. For any entry. Assumes nothing.
 use Prim.Native.Nat.{ℕ, suc, _+_, _<_, _≤_}
-use mathlib.Core.Path.{_≡_, sym}
+use mathlib.Core.Path.{_≡_}
 use mathlib.Core.Bool.{true, false}
 use mathlib.Core.List.{List}
 use lib.ListN.{length, take, getD, length-take}

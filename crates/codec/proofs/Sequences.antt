@@ -1,13 +1,13 @@
 -- One field behind another, also one that depends on it, and a field that may be absent, have a codec's laws. Assumes nothing.
 use Prim.Native.Nat.{ℕ, zero, suc, _+_}
-use mathlib.Core.Path.{_≡_, refl, ap, ap₂, _∙_, subst₂}
+use mathlib.Core.Path.{_≡_, refl, ap₂, _∙_, subst₂}
 use mathlib.Core.Bool.{Bool, true, false}
 use mathlib.Core.List.{List, _++_, append-assoc}
 use lib.ListN.{length, drop, length-append}
 use native.Mathlib.Nat.{add-assoc}
 use native.Mathlib.Omega.{arith}
 use Rattle.codec.specs.Answer.{Answer, got, refused, next}
-use Rattle.codec.specs.Codec.{Codec, flag, nothing, first, _thenBy_, _&_, present, optional}
+use Rattle.codec.specs.Codec.{Codec, flag, first, _thenBy_, _&_, present, optional}
 use Rattle.codec.proofs.Lawful.{Accepted, Lawful, behind, never}
 use Rattle.codec.proofs.Fields.{flag-lawful, nothing-lawful}
 

@@ -1,6 +1,6 @@
 -- What a `match` or a `let .. else` tells of an answer, and of a check that another follows. Assumes nothing.
 use Prim.Native.Nat.{ℕ, zero, suc, _<_}
-use mathlib.Core.Path.{_≡_, refl, sym}
+use mathlib.Core.Path.{_≡_, refl}
 use native.Mathlib.Omega.{arith}
 use lib.Dec.{lit<}
 use denote.Enum.Declared.{tagOf}

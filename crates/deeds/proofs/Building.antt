@@ -1,9 +1,9 @@
 -- The ways of a recipient's codes, and of a row that is built recipient by recipient. Assumes nothing.
 use Prim.Native.Nat.{ℕ, _+_, _-_, _<_, _≤_}
-use mathlib.Core.Path.{_≡_, refl, ap, sym, subst, _∙_}
+use mathlib.Core.Path.{_≡_, refl, ap, sym, _∙_}
 use mathlib.Core.Bool.{Bool, true, false, cond, _||_}
-use mathlib.Core.List.{List, [], _∷_, _++_, map}
-use mathlib.Core.Option.{Option, none, some}
+use mathlib.Core.List.{List, _∷_, _++_, map}
+use mathlib.Core.Option.{none, some}
 use lib.ListN.{length, take, drop, set, getD}
 use lib.Dec.{eqb, lit≤}
 use borrow.Author.Tests.{ne-eqb}

@@ -5,7 +5,7 @@ use mathlib.Core.Logic.{_⊎_, inl, inr, ⊎-elim}
 use mathlib.Core.Bool.{Bool, true, false, not, _&&_, _||_}
 use mathlib.Core.List.{List, _∷_, map}
 use mathlib.Core.Option.{Option, none, some}
-use lib.ListN.{length, take, drop, set, getD, length-map, length-take}
+use lib.ListN.{length, take, drop, getD, length-map, length-take}
 use lib.Dec.{T, eqb}
 use borrow.Author.Tests.{eqb-true, eq-eqb, ne-eqb}
 use native.Mathlib.Omega.{arith}
@@ -18,19 +18,17 @@ use Rattle.header.specs.declared.Addresses.{Addresses}
 use Rattle.header.specs.Rules.{_⇒_, all}
 use Rattle.header.specs.declared.Requests.{Requests}
 use Rattle.order.specs.Keyed.{put, sort, InOrder}
-use Rattle.order.specs.Values.{Address, addressOf, byAddress, keyFault}
+use Rattle.order.specs.Values.{Address, byAddress, keyFault}
 use Rattle.order.specs.Requests.{Mark, answeredBy, settle, Fit, Shut, WellMarked, askOf}
 use Rattle.order.proofs.Orders.{by-address}
 use Rattle.order.proofs.Keyed.{sorted, put-some, sort-in-order}
 use Rattle.order.proofs.Requests.{settle-well}
 use Rattle.table.specs.Rows.{codeOf, markOf, recipientOf, usedRecipients}
-use Rattle.table.specs.Search.{Stopped, addressesOf}
-use Rattle.table.specs.WellFormed.{fits, unanswered, recipientFine, rowFine, increasing}
+use Rattle.table.specs.WellFormed.{fits, unanswered, recipientFine, rowFine}
 use Rattle.table.specs.declared.Recipient.{Recipient}
 use Rattle.table.specs.declared.Row.{Row}
-use Rattle.table.proofs.Parts.{and-both, fine-row, row-fine}
+use Rattle.table.proofs.Parts.{and-both, row-fine}
 use Rattle.table.proofs.InOrder.{recipients-increasing}
-use Rattle.table.proofs.Kept.{all-replaced, order-replaced}
 
 -- ---- one code
 

@@ -1,8 +1,8 @@
 -- Receipts, way by way: what the code has found out gives what the deed promises. Assumes nothing.
-use Prim.Native.Nat.{ℕ, zero, suc, _+_, _<_, _≤_}
-use mathlib.Core.Path.{_≡_, refl, ap, ap₂, sym, _∙_, subst}
+use Prim.Native.Nat.{ℕ, zero, suc, _<_, _≤_}
+use mathlib.Core.Path.{_≡_, refl, ap, sym, _∙_, subst}
 use mathlib.Core.Bool.{Bool, true, false, not, cond, false≢true}
-use mathlib.Core.List.{List, [], _∷_, _++_, map}
+use mathlib.Core.List.{List, map}
 use mathlib.Core.Logic.{inr}
 use mathlib.Core.Option.{Option, none, some}
 use lib.ListN.{length, take, getD, set, length-take, List·getD-map}
@@ -17,11 +17,11 @@ use Rattle.codec.proofs.Sequences.{first-zero}
 use Rattle.codec.proofs.Told.{first-refusal}
 use Rattle.header.specs.Table.{address}
 use Rattle.header.specs.declared.Address.{Address as DeclaredAddress}
-use Rattle.order.specs.Values.{Address, addressOf, Key, keyOf, byAddress, byKey}
+use Rattle.order.specs.Values.{Address, addressOf, keyOf, byAddress, byKey}
 use Rattle.order.specs.Keyed.{find, put, alter}
-use Rattle.order.specs.Requests.{Ask, Mark, settle, askOf}
+use Rattle.order.specs.Requests.{settle, askOf}
 use Rattle.order.specs.Machine.{step}
-use Rattle.order.specs.Calls.{Deed, Row as Cells, Rows, receipt, replied, mark, board}
+use Rattle.order.specs.Calls.{Deed, Row as Cells, receipt, replied, mark, board}
 use Rattle.order.specs.declared.Key.{Key as DeclaredKey}
 use Rattle.order.proofs.Orders.{Order, by-address, by-key}
 use Rattle.table.specs.Rows.{see, markOf, rowOf, recipientOf, usedRows, usedRecipients, Whole}
@@ -34,7 +34,7 @@ use Rattle.table.specs.declared.Table.{Table}
 use Rattle.table.proofs.Search.{row-held, row-free, recipient-held, recipient-free}
 use Rattle.table.proofs.Moves.{see-replaced, recipients-replaced}
 use Rattle.table.proofs.Kept.{replaced-well-formed, replaced-row-fine}
-use Rattle.table.proofs.Parts.{FineRow, fine-table, fine-row, all-at}
+use Rattle.table.proofs.Parts.{fine-table, fine-row, all-at}
 use Rattle.arguments.specs.Arguments.{named}
 use Rattle.deeds.specs.Acts.{Acted}
 use Rattle.deeds.proofs.Marks.{settled-fine}

@@ -1,11 +1,11 @@
 -- Posting and release, way by way: what the code has found out gives what the deed promises. Assumes nothing.
 use Prim.Native.Nat.{ℕ, _+_, _<_, _≤_}
-use mathlib.Core.Path.{_≡_, refl, ap, ap₂, sym, _∙_, subst}
+use mathlib.Core.Path.{_≡_, refl, ap, sym, _∙_, subst}
 use mathlib.Core.Bool.{Bool, true, false, not, _||_}
-use mathlib.Core.List.{List, [], _∷_, _++_, map, map-map}
+use mathlib.Core.List.{List, _∷_, _++_, map, map-map}
 use mathlib.Core.Logic.{inr}
-use mathlib.Core.Option.{Option, none, some}
-use lib.ListN.{length, take, drop, getD, length-map, length-take}
+use mathlib.Core.Option.{some}
+use lib.ListN.{length, take, drop}
 use lib.Dec.{leb, eqb, lit<}
 use borrow.Author.Tests.{le-leb, lt-leb, leb-true, leb-false, eq-eqb, ne-eqb}
 use native.Mathlib.Omega.{arith}
@@ -21,12 +21,12 @@ use Rattle.header.specs.Zero.{noAddress}
 use Rattle.header.specs.declared.Address.{Address}
 use Rattle.header.specs.declared.Requests.{Requests}
 use Rattle.header.specs.declared.Addresses.{Addresses}
-use Rattle.order.specs.Values.{addressOf, Key, keyOf, byAddress, byKey, keyFault}
-use Rattle.order.specs.Keyed.{find, put, sort}
-use Rattle.order.specs.Requests.{Mark, anyOf, blank, askOf}
+use Rattle.order.specs.Values.{addressOf, keyOf, byAddress, byKey, keyFault}
+use Rattle.order.specs.Keyed.{put, sort}
+use Rattle.order.specs.Requests.{anyOf, blank, askOf}
 use Rattle.order.specs.Calls.{Deed, make, post, release}
 use Rattle.order.specs.declared.Key.{Key as DeclaredKey}
-use Rattle.table.specs.Rows.{see, Whole, rowOf, recipientOf, usedRows, usedRecipients}
+use Rattle.table.specs.Rows.{see, Whole, recipientOf, usedRows, usedRecipients}
 use Rattle.table.specs.Search.{Stopped, keysOf, Placed}
 use Rattle.table.specs.Zero.{noRow}
 use Rattle.table.specs.declared.Position.{Position}

@@ -1,11 +1,11 @@
 -- Table I has a codec's laws, group by group and whole: a header that may be written is read back, what is read is written again as the same bits, and no
 -- header begins another. Assumes nothing.
-use Prim.Native.Nat.{ℕ, zero, suc, _-_, _≤_, _<_, _^_}
+use Prim.Native.Nat.{ℕ, suc, _-_, _≤_, _<_, _^_}
 use mathlib.Core.Path.{_≡_, refl, ap}
 use mathlib.Core.Bool.{Bool, true, false, not}
 use lib.Dec.{lit<, lit≤}
 use native.Mathlib.Omega.{arith}
-use Rattle.codec.specs.Codec.{Codec, number, flag, tested, must, present, optional, viewed, _thenBy_}
+use Rattle.codec.specs.Codec.{number, flag, tested, must, present, viewed, _thenBy_}
 use Rattle.codec.specs.Lists.{recurs, listed, cells}
 use Rattle.codec.proofs.Lawful.{Lawful}
 use Rattle.codec.proofs.Fields.{number-lawful, flag-lawful}

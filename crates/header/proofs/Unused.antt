@@ -1,19 +1,18 @@
 -- Rules and sizes do not look at unused cells: a record and the same with its unused cells 0 keep the same rules and have the same sizes. Assumes nothing.
-use Prim.Native.Nat.{ℕ, zero, suc, _+_, _-_, _≤_}
-use mathlib.Core.Path.{_≡_, refl, ap, ap₂, sym, _∙_}
+use Prim.Native.Nat.{ℕ, zero, suc, _+_, _-_}
+use mathlib.Core.Path.{_≡_, refl, ap, ap₂}
 use mathlib.Core.Bool.{Bool, true, false, not, _&&_, _||_}
 use mathlib.Core.List.{List, [], _∷_, _++_, map}
 use lib.ListN.{length, take, replicate}
-use lib.Seq.{take-at}
-use lib.Dec.{leb, eqb}
+use lib.Dec.{eqb}
 use native.Mathlib.Omega.{arith}
 use Rattle.codec.specs.Answer.{pick}
-use Rattle.codec.specs.Codec.{Codec, number, flag, nothing, present, viewed, tested, _thenBy_, _closedBy_}
+use Rattle.codec.specs.Codec.{Codec, number, flag, nothing, present, viewed, _thenBy_, _closedBy_}
 use Rattle.codec.specs.Lists.{listed, cells}
 use Rattle.optional.specs.Optionals.{optionalNumber}
-use Rattle.header.specs.Table.{optionalIdentity, format, codes, handling, optionalStamp, optionalDtg, requests, optionalRequests, times, compliance, response, optionalResponse, block, blocks, front, originator, recipients}
+use Rattle.header.specs.Table.{optionalIdentity, format, handling, optionalStamp, optionalDtg, requests, optionalRequests, times, compliance, response, optionalResponse, block, blocks, front, originator}
 use Rattle.header.specs.Zero.{noRequests, noResponse, noBlock}
-use Rattle.header.specs.Rules.{_⇒_, ruleA, ruleB, ruleC, ruleD, ruleE, ruleF, ruleG, ruleH, ruleI, rules, all, usedBlocks, settingOf, rulesKept}
+use Rattle.header.specs.Rules.{_⇒_, ruleA, ruleB, ruleC, ruleD, ruleE, ruleF, ruleG, ruleH, ruleI, all, usedBlocks, settingOf, rulesKept}
 use Rattle.header.specs.Sizes.{sizeOf, shares, total, owns, sizesRight}
 use Rattle.header.specs.Same.{headerNorm}
 use Rattle.header.specs.declared.Setting.{Setting}

@@ -1,5 +1,4 @@
 -- Document 01's rules (a) to (i), in their order. Each says of a block, in its setting, that the rule is kept.
-use Prim.Native.Nat.{ℕ}
 use mathlib.Core.Bool.{Bool, true, false, not, _&&_, _||_}
 use mathlib.Core.List.{List, [], _∷_}
 use lib.ListN.{take}

@@ -1,11 +1,11 @@
 -- Two addresses, or two keys, are the same exactly where their comparison finds no difference. Assumes nothing.
 use Prim.Native.Nat.{ℕ, compare, Ordering, Ordering·lt as lt, Ordering·eq as eq, Ordering·gt as gt}
-use mathlib.Core.Path.{_≡_, refl, ap, ap₂, sym, _∙_}
+use mathlib.Core.Path.{_≡_, refl, ap₂, sym, _∙_}
 use mathlib.Core.Bool.{Bool, true, false, cond, _&&_}
 use mathlib.Core.List.{List, [], _∷_}
 use mathlib.Core.Option.{Option, none, some}
 use lib.Dec.{eqb}
-use Rattle.order.specs.Order.{choose, then, byNumber, list, option, _lex_, _or_, pull}
+use Rattle.order.specs.Order.{choose, then, byNumber, list, option, _or_}
 use Rattle.order.specs.Values.{Address, urn, name, byAddress, Key, byKey}
 use Rattle.order.proofs.Orders.{cases}
 use Rattle.history.specs.Sheet.{sameList, sameAddress, sameExtension, sameKey}

@@ -17,10 +17,9 @@ use Rattle.order.specs.Machine.{step}
 use Rattle.order.specs.Requests.{Ask, Mark, settle}
 use Rattle.order.specs.Calls.{Deed, post, receipt, release, key, act, Row, Rows, board, entered, full, written, reply, received, released}
 use Rattle.order.specs.Runs.{answers}
-use Rattle.header.specs.Rules.{all}
 use Rattle.header.specs.declared.Header.{Header}
 use Rattle.table.specs.Rows.{see}
-use Rattle.table.specs.WellFormed.{increasing, wellFormed}
+use Rattle.table.specs.WellFormed.{wellFormed}
 use Rattle.table.specs.declared.Table.{Table}
 use Rattle.arguments.specs.Arguments.{Arguments, posting, receiving, releasing, hasBlock, blockAt, asks, someRecipient, oneRecipient, named, postingFault, receiptFault, callOf}
 use Rattle.listing.specs.Text.{listed}

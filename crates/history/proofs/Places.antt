@@ -1,15 +1,15 @@
 -- Two calls that may change places, by their arguments, are apart in the theory of the calls; and a call uses no more lines than its arguments say. Assumes nothing.
 use Prim.Native.Nat.{ℕ, zero, suc, _≤_}
-use mathlib.Core.Path.{_≡_, refl, ap, sym, _∙_}
-use mathlib.Core.Logic.{_≢_, _⊎_, inl, inr}
-use mathlib.Core.Option.{Option, some}
+use mathlib.Core.Path.{_≡_, refl, ap, _∙_}
+use mathlib.Core.Logic.{inl, inr}
+use mathlib.Core.Option.{some}
 use native.Mathlib.Omega.{arith}
 use Rattle.header.specs.declared.Header.{Header}
-use Rattle.order.specs.Values.{Address, Key, keyOf, byKey, addressOf, keyFault}
-use Rattle.order.specs.Calls.{Deed, post, receipt, release, key, Call, Apart, refusedFirst, refusedSecond, messages, answerers, linesFor}
+use Rattle.order.specs.Values.{Address, Key, keyOf, keyFault}
+use Rattle.order.specs.Calls.{Deed, receipt, release, key, Call, Apart, refusedFirst, refusedSecond, messages, answerers, linesFor}
 use Rattle.order.proofs.Orders.{by-key}
 use Rattle.order.proofs.Keyed.{sorted, same-or-not}
-use Rattle.arguments.specs.Arguments.{Arguments, posting, receiving, releasing, postingFault, receiptFault, named, callOf, message, answerer}
+use Rattle.arguments.specs.Arguments.{Arguments, posting, receiving, releasing, postingFault, receiptFault, named, callOf, answerer}
 use Rattle.arguments.proofs.Names.{message-is, answerer-is}
 use Rattle.history.specs.History.{MayChange, otherMessage, otherAnswerer, lineFor}
 

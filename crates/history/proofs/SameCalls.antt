@@ -11,13 +11,13 @@ use lib.Dec.{leb, eqb, lit<, lit≤}
 use borrow.Author.Tests.{leb-true, eqb-true}
 use native.Mathlib.Omega.{arith}
 use Rattle.codec.specs.Answer.{pick}
-use Rattle.codec.specs.Codec.{number, flag, first, present, viewed, _thenBy_}
+use Rattle.codec.specs.Codec.{first, present, viewed}
 use Rattle.codec.proofs.Fields.{and-left, and-right}
 use Rattle.codec.proofs.Sequences.{first-zero, first-same}
 use Rattle.codec.proofs.ListLaws.{fine-legal}
 use Rattle.codec.proofs.ListEnds.{whole-array, count-most, entry-legal}
 use Rattle.header.specs.Zero.{noAddress, noBlock}
-use Rattle.header.specs.Table.{maybe, address, addresses, originator, front, stamp, block, blocks}
+use Rattle.header.specs.Table.{address, addresses, originator, front, stamp, block, blocks}
 use Rattle.header.specs.Same.{sameAddress, sameAddresses, sameOptionalAddress, sameOptionalAddresses, sameFront, sameOptionalStamp, sameOptionalRequests, sameTimes, sameCompliance, sameResponse, sameOptionalResponse, sameBlock, sameBlocks, Same}
 use Rattle.header.specs.declared.Address.{Address as DeclaredAddress}
 use Rattle.header.specs.declared.Block.{Block}

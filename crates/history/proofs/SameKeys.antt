@@ -9,18 +9,16 @@ use lib.Dec.{leb, eqb, lit<}
 use borrow.Author.Tests.{leb-true, eqb-true}
 use native.Mathlib.Omega.{arith}
 use Rattle.codec.specs.Answer.{pick}
-use Rattle.codec.specs.Codec.{number, flag, first, tested, same, must, viewed, present, _thenBy_}
+use Rattle.codec.specs.Codec.{number, flag, first, tested, same, viewed, present, _thenBy_}
 use Rattle.codec.specs.Characters.{characters}
-use Rattle.codec.specs.Lists.{some as nonEmpty, cells}
+use Rattle.codec.specs.Lists.{cells}
 use Rattle.codec.proofs.Lawful.{same-check}
 use Rattle.codec.proofs.Sequences.{first-zero}
 use Rattle.codec.proofs.ListLaws.{fine-legal}
-use Rattle.codec.proofs.Agrees.{Agrees}
-use Rattle.optional.specs.Optionals.{optionalNumber}
 use Rattle.optional.specs.declared.OptionalNumber.{OptionalNumber}
 use Rattle.text.specs.Texts.{text, noText}
 use Rattle.text.specs.declared.Text.{Text}
-use Rattle.header.specs.Table.{maybe, unitName, address, date, time, dtg, stamp}
+use Rattle.header.specs.Table.{maybe, unitName, address, date, time, stamp}
 use Rattle.header.specs.Same.{sameNumber, sameText, sameOptionalText, sameAddress, sameStamp}
 use Rattle.header.specs.declared.Address.{Address as DeclaredAddress}
 use Rattle.header.specs.declared.Stamp.{Stamp}

@@ -1,5 +1,5 @@
 -- An optional number has a codec's laws. Assumes nothing.
-use Prim.Native.Nat.{ℕ, _<_, _^_}
+use Prim.Native.Nat.{_<_, _^_}
 use mathlib.Core.Path.{refl}
 use lib.Dec.{lit<}
 use Rattle.codec.proofs.Lawful.{Lawful}

@@ -1,11 +1,10 @@
 -- The three calls: what the code names is what document 01 has the call name, so that the deed done is the call's. Assumes nothing.
 use Prim.Native.Nat.{ℕ, zero, suc, _<_, _≤_}
 use mathlib.Core.Path.{_≡_, refl, ap, sym, _∙_, subst}
-use mathlib.Core.Bool.{Bool, true, false}
+use mathlib.Core.Bool.{Bool, true}
 use mathlib.Core.List.{[], map}
 use lib.ListN.{take}
 use lib.Dec.{leb}
-use native.Mathlib.Omega.{arith}
 use Rattle.codec.specs.Answer.{pick}
 use Rattle.codec.specs.Codec.{first, viewed}
 use Rattle.codec.proofs.Fields.{and-left, and-right}
@@ -24,7 +23,7 @@ use Rattle.order.specs.declared.Key.{Key}
 use Rattle.table.specs.declared.Table.{Table}
 use Rattle.arguments.specs.Arguments.{Arguments, posting, receiving, releasing, hasBlock, blockAt, recipientsOf, postingKey, receiptKey, postingFault, receiptFault, named, callOf}
 use Rattle.arguments.proofs.Legal.{code-some}
-use Rattle.arguments.proofs.Names.{Posts, Answers, posts, answers, legal-at}
+use Rattle.arguments.proofs.Names.{Posts, posts, answers, legal-at}
 use Rattle.deeds.specs.Acts.{Acted}
 use Rattle.pending.specs.Calls.{Did}
 
@@ -37,7 +36,7 @@ same-named f g d e i same = ap (λ (n : ℕ). named n d) i ∙ go g same
     go (suc n) s = refl
 
 did : (a : Arguments) (c : Call) (t t′ : Table) (n : ℕ) → c ≡ callOf a → Acted c t n t′ → Did a t n t′
-did a c t t′ n e x = let y = subst (λ (d : Call). Acted d t n t′) e x in record { answer = y .answer; rows = y .rows; well = y .well; refused = y .refused; cells = y .cells }
+did a c t t′ n e x = subst (λ (d : Call). Acted d t n t′) e x
 
 -- ---- release
 

@@ -1,6 +1,5 @@
 // Reads standard input, a datagram in hexadecimal on each line, plays each to the table of pending
 // messages, and prints the table's listing.
-ghost use mathlib.Core.Path.{_≡_};
 ghost use Prim.Native.Nat.{_≤_, _<_};
 ghost use lib.ListN.{length};
 use libc::STDIN_FILENO;

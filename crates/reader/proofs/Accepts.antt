@@ -1,5 +1,5 @@
 -- The reading, way by way: each refusal where its check fails and no earlier one does, and what is known of an accepted datagram. Assumes nothing.
-use Prim.Native.Nat.{ℕ, _+_, _*_, _-_, _/_, _<_, _≤_}
+use Prim.Native.Nat.{ℕ, _-_, _<_, _≤_}
 use mathlib.Core.Path.{_≡_, refl, ap, sym, _∙_}
 use mathlib.Core.Bool.{Bool, true, false}
 use mathlib.Core.List.{List, []}
@@ -20,7 +20,6 @@ use Rattle.codec.proofs.Step as step
 use Rattle.codec.proofs.Lawful.{read-within}
 use Rattle.header.specs.Table.{wire}
 use Rattle.header.specs.Rules.{rulesKept}
-use Rattle.header.specs.declared.Header.{Header}
 use Rattle.header.specs.declared.Wire.{Wire}
 use Rattle.header.proofs.Lawful.{wire-lawful}
 use Rattle.reader.specs.Reading.{Reading, accepted, rejected, recordOf, readFill, sizesHold, settled, filled, judged, reading, behindHeader, userData}

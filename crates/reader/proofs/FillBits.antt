@@ -1,12 +1,12 @@
 -- Fill bits, one after the other. Assumes nothing.
-use Prim.Native.Nat.{ℕ, zero, suc, _+_, _-_, _<_, _≤_}
+use Prim.Native.Nat.{ℕ, zero, suc, _-_, _<_, _≤_}
 use mathlib.Core.Path.{_≡_, refl, ap, sym, _∙_}
 use mathlib.Core.Bool.{Bool, false}
 use mathlib.Core.List.{List}
 use native.Mathlib.Omega.{arith}
 use denote.Enum.Declared.{tagOf}
 use Rattle.bits.specs.declared.BitPlace.{BitPlace}
-use Rattle.codec.specs.Answer.{Answer, got, next}
+use Rattle.codec.specs.Answer.{got, next}
 use Rattle.codec.specs.Codec.{must}
 use Rattle.codec.specs.Refusals.{answer}
 use Rattle.codec.specs.declared.Step.{Step}

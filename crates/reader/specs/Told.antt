@@ -2,7 +2,6 @@
 -- header's octets. On a refusal the record is the zero record and the length 0.
 use Prim.Native.Nat.{ℕ}
 use mathlib.Core.Bool.{Bool, true, false}
-use Rattle.bits.specs.declared.BitPlace.{BitPlace}
 use Rattle.codec.specs.Refusals.{faultNo}
 use Rattle.codec.specs.declared.Step.{Step}
 use Rattle.header.specs.Zero.{noHeader}

@@ -2,12 +2,11 @@
 -- accepts as the same record, and the length that `read` returns is the one that `write` returned. The hypotheses are the two contracts, that the
 -- record is valid, and that the output has room. Assumes nothing else.
 use Prim.Native.Nat.{ℕ, _≤_}
-use mathlib.Core.Path.{_≡_, refl, ap, sym, _∙_}
+use mathlib.Core.Path.{_≡_, ap, sym, _∙_}
 use mathlib.Core.Bool.{true}
 use mathlib.Core.List.{List, _++_}
 use lib.ListN.{length, take, drop}
 use lib.Seq.{take-at}
-use native.Mathlib.Omega.{arith}
 use Rattle.header.specs.Same.{Same}
 use Rattle.header.specs.declared.Header.{Header}
 use Rattle.reader.specs.Reading.{reading, accepted}
@@ -16,7 +15,7 @@ use Rattle.reader.specs.Told.{Told, toTell, outcomeDone}
 use Rattle.reader.specs.declared.HeaderRead.{HeaderRead}
 use Rattle.writer.specs.Writing.{headerSize, headerOf, ValidRecord, done, writing, outputAfter, told}
 use Rattle.writer.specs.declared.Written.{Written}
-use Rattle.roundtrip.specs.Inverse.{ReadAs, WrittenAs}
+use Rattle.roundtrip.specs.Inverse.{ReadAs}
 use Rattle.roundtrip.proofs.ReadBack.{header-octets, read-as, written-as}
 
 module _ (h : Header) (count : ℕ) (valid : ValidRecord h count) (out : List ℕ) (room : headerSize h ≤ length out) where

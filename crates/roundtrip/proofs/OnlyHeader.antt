@@ -2,8 +2,8 @@
 -- written as. The hypotheses: the datagram is a string of octets (every slice of `u8` is), it is accepted, and its record is the same. Assumes nothing else.
 use Prim.Native.Nat.{ℕ}
 use mathlib.Core.Path.{_≡_, sym, _∙_}
-use mathlib.Core.List.{List, _++_}
-use lib.ListN.{length, take, drop}
+use mathlib.Core.List.{List}
+use lib.ListN.{length, take}
 use Rattle.bits.proofs.OctetBits.{AllOctets}
 use Rattle.header.specs.Same.{Same}
 use Rattle.header.specs.declared.Header.{Header}

@@ -1,7 +1,7 @@
 -- What is known of an accepted datagram. Assumes nothing.
-use Prim.Native.Nat.{ℕ, _+_, _-_, _≤_}
-use mathlib.Core.Path.{_≡_, refl, ap, sym, _∙_}
-use mathlib.Core.Bool.{Bool, true, false, _&&_}
+use Prim.Native.Nat.{ℕ, _-_, _≤_}
+use mathlib.Core.Path.{_≡_, refl}
+use mathlib.Core.Bool.{Bool, true, false}
 use mathlib.Core.List.{List}
 use lib.ListN.{length}
 use lib.Dec.{leb, eqb}
@@ -16,7 +16,7 @@ use Rattle.header.specs.Rules.{_⇒_, rulesKept}
 use Rattle.header.specs.Sizes.{sizesRight}
 use Rattle.header.specs.declared.Header.{Header}
 use Rattle.header.specs.declared.Wire.{Wire}
-use Rattle.reader.specs.Reading.{Reading, accepted, rejected, recordOf, readFill, sizesHold, settled, filled, judged, reading}
+use Rattle.reader.specs.Reading.{accepted, rejected, recordOf, readFill, sizesHold, settled, filled, judged, reading}
 
 -- what is known of an accepted datagram with a header of n octets
 pub record Accepted (s : List ℕ) (n : ℕ) : Type 0 where

@@ -1,34 +1,33 @@
 -- Demand 2, first part: every valid record is, given room, written as its header, and the header followed by ANY user data of that count is read back as
 -- the same record; the header's length that the reading tells is the count that the writing returned. The hypotheses: the record is valid with the count
 -- (`check` tells this of any record), and the output has room. Assumes nothing else.
-use Prim.Native.Nat.{ℕ, _+_, _*_, _-_, _≤_}
+use Prim.Native.Nat.{ℕ, _+_, _-_, _≤_}
 use mathlib.Core.Path.{_≡_, refl, ap, ap₂, sym, _∙_}
-use mathlib.Core.Bool.{Bool, true, false, _&&_}
+use mathlib.Core.Bool.{Bool, true, false}
 use mathlib.Core.List.{List, _++_, append-assoc}
 use lib.ListN.{length, drop, replicate, length-append}
-use lib.Seq.{drop-append-seam, drop-at}
-use lib.Dec.{leb, eqb}
+use lib.Seq.{drop-at}
+use lib.Dec.{eqb}
 use borrow.Author.Tests.{le-leb, eq-eqb}
 use native.Mathlib.Omega.{arith}
 use Rattle.bits.specs.Bits.{bitsOf}
-use Rattle.bits.specs.Units.{wholeOctets, fillBits, datagramLimit}
+use Rattle.bits.specs.Units.{fillBits, datagramLimit}
 use Rattle.bits.proofs.OctetBits.{bitsOf-append}
 use Rattle.bits.proofs.Packing.{bits-octets, length-octets}
-use Rattle.codec.specs.Answer.{got, pick}
+use Rattle.codec.specs.Answer.{got}
 use Rattle.codec.specs.Codec.{number, flag, nothing, present, viewed, _thenBy_}
-use Rattle.codec.proofs.Lawful.{Lawful, Accepted, read-back, behind}
+use Rattle.codec.proofs.Lawful.{read-back, behind}
 use Rattle.optional.specs.Optionals.{optionalNumber}
 use Rattle.header.specs.Table.{front, blocks, wire}
-use Rattle.header.specs.Rules.{_⇒_, rulesKept}
-use Rattle.header.specs.Sizes.{sizesRight}
-use Rattle.header.specs.Same.{Same, headerNorm}
+use Rattle.header.specs.Rules.{_⇒_}
+use Rattle.header.specs.Same.{headerNorm}
 use Rattle.header.specs.declared.Header.{Header}
 use Rattle.header.specs.declared.Wire.{Wire}
 use Rattle.header.proofs.Lawful.{wire-lawful}
 use Rattle.header.proofs.Same.{norm-same}
 use Rattle.header.proofs.Unused.{rules-norm, sizes-norm}
-use Rattle.reader.specs.Reading.{Reading, accepted, recordOf, readFill, sizesHold, settled, filled, judged, reading, behindHeader, userData}
-use Rattle.writer.specs.Writing.{wireOf, fieldsEnd, headerSize, headerBits, headerOf, ValidRecord, done, writing, outputAfter}
+use Rattle.reader.specs.Reading.{accepted, readFill, settled, filled, judged, reading, behindHeader}
+use Rattle.writer.specs.Writing.{wireOf, fieldsEnd, headerSize, headerBits, headerOf, ValidRecord, done}
 use Rattle.writer.proofs.Parts.{wire-legal, size-bounded}
 use Rattle.writer.proofs.Packed.{fields-length, header-length}
 use Rattle.writer.proofs.Ways.{is-written}

@@ -1,28 +1,22 @@
 -- Demand 2: the same records, whatever their unused cells hold, get the same answer of the check and of writing, and the same output. The hypothesis is
 -- document 01's sameness of two records. Assumes nothing else.
-use Prim.Native.Nat.{ℕ, zero, suc, _+_}
+use Prim.Native.Nat.{ℕ, zero, suc}
 use mathlib.Core.Path.{_≡_, refl, ap, sym, _∙_}
-use mathlib.Core.Bool.{Bool, false}
 use mathlib.Core.List.{List, _++_}
-use lib.ListN.{length, drop, replicate}
-use lib.Dec.{leb}
+use lib.ListN.{length, drop}
 use native.Mathlib.Omega.{arith}
-use Rattle.bits.specs.Bits.{octets}
-use Rattle.bits.specs.Units.{fillBits, datagramLimit}
-use Rattle.codec.specs.Answer.{pick}
 use Rattle.codec.specs.Codec.{first, viewed, _thenBy_}
-use Rattle.codec.proofs.Lawful.{Lawful, same-check, same-bits}
+use Rattle.codec.proofs.Lawful.{same-check, same-bits}
 use Rattle.header.specs.Table.{maybe, front, blocks, wire}
 use Rattle.header.specs.Rules.{rulesKept}
 use Rattle.header.specs.Sizes.{sizesRight}
 use Rattle.header.specs.Same.{Same, headerNorm}
 use Rattle.header.specs.declared.Header.{Header}
-use Rattle.header.specs.declared.Wire.{Wire}
 use Rattle.header.proofs.Lawful.{wire-lawful}
 use Rattle.header.proofs.Same.{same-norm}
 use Rattle.header.proofs.Unused.{rules-norm, sizes-norm}
 use Rattle.writer.specs.Writing.{wireOf, fieldsEnd, headerSize, headerBits, headerOf, fieldsFault, faultOf, Writing, answered, done, rejected, checking, writing, outputAfter}
-use Rattle.writer.proofs.Parts.{size-legal, ends-alike, wire-legal, size-bounded}
+use Rattle.writer.proofs.Parts.{size-legal, wire-legal, size-bounded}
 use Rattle.writer.proofs.Ways.{valid-fields}
 
 -- the header size's number is always legal

@@ -1,25 +1,23 @@
 -- Demand 2, third part: every accepted datagram's record is valid with the count of its user data, and is written again as the octets of its header.
 -- The hypotheses: the datagram is a string of octets (every slice of `u8` is), it is accepted, and the output has room. Assumes nothing else.
-use Prim.Native.Nat.{ℕ, _+_, _*_, _-_, _≤_}
-use mathlib.Core.Path.{_≡_, refl, ap, ap₂, sym, _∙_, subst⁻¹}
+use Prim.Native.Nat.{ℕ, _+_, _-_, _≤_}
+use mathlib.Core.Path.{_≡_, refl, ap, ap₂, sym, _∙_}
 use mathlib.Core.Bool.{Bool, true, false}
 use mathlib.Core.List.{List, _++_, append-assoc}
-use lib.ListN.{length, take, drop, replicate, length-append, length-drop, length-take, take-append-drop}
+use lib.ListN.{length, take, drop, replicate, length-append, length-drop, take-append-drop}
 use lib.Seq.{take-at, length-take-le}
-use lib.Dec.{leb, eqb}
+use lib.Dec.{eqb}
 use borrow.Author.Tests.{le-leb, eqb-true}
 use native.Mathlib.Omega.{arith}
 use Rattle.bits.specs.Bits.{bitsOf, splice}
-use Rattle.bits.specs.Units.{wholeOctets, fillBits, datagramLimit}
-use Rattle.bits.proofs.OctetBits.{AllOctets, length-bitsOf}
+use Rattle.bits.specs.Units.{fillBits, datagramLimit}
+use Rattle.bits.proofs.OctetBits.{AllOctets}
 use Rattle.bits.proofs.Packing.{packed}
-use Rattle.codec.specs.Answer.{got, pick}
-use Rattle.codec.specs.Codec.{first, number, flag, nothing, present, viewed, _thenBy_}
-use Rattle.codec.proofs.Lawful.{Lawful, Accepted as Read}
+use Rattle.codec.specs.Codec.{first, flag, nothing, present, viewed, _thenBy_}
+use Rattle.codec.proofs.Lawful.{Accepted as Read}
 use Rattle.optional.specs.Optionals.{optionalNumber}
 use Rattle.header.specs.Table.{maybe, front, blocks, wire}
-use Rattle.header.specs.Rules.{_⇒_, rulesKept}
-use Rattle.header.specs.Sizes.{sizesRight}
+use Rattle.header.specs.Rules.{_⇒_}
 use Rattle.header.specs.declared.Header.{Header}
 use Rattle.header.specs.declared.Wire.{Wire}
 use Rattle.header.proofs.Lawful.{wire-lawful}

@@ -1,6 +1,6 @@
 -- Bits that are 0 are read as fill, and what is read as fill is 0. Assumes nothing.
 use Prim.Native.Nat.{ℕ, zero, suc, _+_}
-use mathlib.Core.Path.{_≡_, refl, ap, ap₂, sym, _∙_}
+use mathlib.Core.Path.{_≡_, refl, ap, _∙_}
 use mathlib.Core.Bool.{Bool, true, false}
 use mathlib.Core.List.{List, [], _∷_, _++_}
 use lib.ListN.{drop, replicate}
@@ -8,7 +8,7 @@ use lib.Dec.{lit<}
 use native.Mathlib.Omega.{arith}
 use Rattle.codec.specs.Answer.{Answer, got, refused, next}
 use Rattle.codec.specs.Codec.{must, tested, flag, first}
-use Rattle.codec.proofs.Lawful.{Lawful, Accepted, behind, never}
+use Rattle.codec.proofs.Lawful.{Accepted, behind, never}
 use Rattle.codec.proofs.Views.{must-lawful}
 use Rattle.reader.specs.Reading.{readFill}
 

@@ -1,6 +1,6 @@
 -- When a table is well formed, in document 01's words: at most 32 rows with legal keys and addresses, strictly in key order; 1 to 16 recipients, strictly in
 -- order; something asked; codes only at asked requests and fitting them; where any code at a recipient is 2, no request is open there.
-use Prim.Native.Nat.{ℕ, Ordering, Ordering·lt as lt, Ordering·eq as eq, Ordering·gt as gt}
+use Prim.Native.Nat.{ℕ, Ordering}
 use mathlib.Core.Bool.{Bool, true, false, not, _&&_, _||_}
 use mathlib.Core.List.{List, [], _∷_, map}
 use lib.Dec.{leb, eqb}

@@ -8,7 +8,7 @@ use native.Mathlib.Numerals.{add-one}
 use native.Mathlib.Omega.{arith}
 use Rattle.codec.specs.Codec.{nothing, number, _thenBy_, tested, viewed}
 use Rattle.codec.specs.Characters.{character, characters, writeCharacters}
-use Rattle.codec.specs.Lists.{some, cells}
+use Rattle.codec.specs.Lists.{cells}
 use Rattle.codec.specs.Writes.{Writes}
 use Rattle.codec.proofs.Compose.{then-writes, nothing-writes, shape-writes, tested-writes}
 use Rattle.text.specs.Texts.{text, charsOf}

@@ -1,17 +1,16 @@
 -- The fields and the fill bits, written one after the other, are the header's octets. Assumes nothing.
-use Prim.Native.Nat.{ℕ, zero, suc, _+_, _*_, _/_, _%_, _≤_}
+use Prim.Native.Nat.{ℕ, zero, suc, _*_}
 use mathlib.Core.Path.{_≡_, refl, ap, ap₂, _∙_, subst}
 use mathlib.Core.Bool.{Bool, false}
 use mathlib.Core.List.{List, _∷_, _++_}
 use lib.ListN.{length, drop, replicate, length-append}
 use native.Mathlib.Omega.{arith}
 use Rattle.bits.specs.Bits.{lowBits, bitsOf, splice}
-use Rattle.bits.specs.Units.{wholeOctets, fillBits}
+use Rattle.bits.specs.Units.{fillBits}
 use Rattle.bits.proofs.OctetBits.{AllOctets}
 use Rattle.bits.proofs.Splices.{splice-splice}
 use Rattle.bits.proofs.Packing.{packed}
 use Rattle.codec.specs.Writes.{Writes}
-use Rattle.codec.proofs.Lawful.{Lawful}
 use Rattle.codec.proofs.ListLaws.{length-replicate}
 use Rattle.header.specs.Table.{wire}
 use Rattle.header.specs.declared.Header.{Header}

@@ -1,11 +1,9 @@
 -- A legal record's parts are legal, and its fields end where the header size's number does not matter. Assumes nothing.
-use Prim.Native.Nat.{ℕ, zero, suc, _+_, _≤_}
-use mathlib.Core.Path.{_≡_, refl, ap, sym, _∙_}
+use Prim.Native.Nat.{ℕ, _+_, _≤_}
+use mathlib.Core.Path.{_≡_, refl, ap}
 use mathlib.Core.Bool.{Bool, true, false}
-use lib.Dec.{leb}
 use borrow.Author.Tests.{le-leb}
 use native.Mathlib.Omega.{arith}
-use Rattle.codec.specs.Answer.{pick}
 use Rattle.codec.specs.Codec.{first, number, flag, nothing, present, viewed, _thenBy_}
 use Rattle.codec.proofs.Sequences.{first-zero}
 use Rattle.optional.specs.Optionals.{optionalNumber}

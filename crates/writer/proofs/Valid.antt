@@ -6,7 +6,6 @@ use lib.Dec.{leb, lit<}
 use borrow.Author.Tests.{leb-true}
 use Rattle.bits.specs.Units.{datagramLimit}
 use Rattle.codec.specs.Answer.{pick}
-use Rattle.codec.specs.Codec.{first}
 use Rattle.codec.proofs.ListLaws.{fine-legal}
 use Rattle.codec.proofs.Sequences.{first-zero}
 use Rattle.header.specs.Rules.{rulesKept}

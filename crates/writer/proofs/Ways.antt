@@ -1,16 +1,14 @@
 -- The answers of the check and of writing, way by way: each refusal where its check fails and no earlier one does. Assumes nothing.
-use Prim.Native.Nat.{ℕ, zero, suc, _+_, _-_, _<_, _≤_}
-use mathlib.Core.Path.{_≡_, refl, ap, sym, _∙_}
+use Prim.Native.Nat.{ℕ, zero, suc, _+_, _<_, _≤_}
+use mathlib.Core.Path.{_≡_, refl, sym}
 use mathlib.Core.Bool.{true, false}
 use mathlib.Core.List.{List, _++_}
 use lib.ListN.{drop, length}
-use lib.Dec.{leb}
 use borrow.Author.Tests.{le-leb, lt-leb}
 use native.Mathlib.Omega.{arith}
 use denote.Enum.Declared.{tagOf}
 use Rattle.bits.specs.Units.{datagramLimit}
 use Rattle.bits.specs.declared.OctetSize.{OctetSize}
-use Rattle.codec.specs.Answer.{pick}
 use Rattle.codec.specs.Codec.{first}
 use Rattle.codec.specs.Refusals.{checkNo, faultNo}
 use Rattle.codec.specs.declared.Check.{Check}

@@ -1,7 +1,6 @@
 // Writing a record as a header, and the check alone.
 ghost use mathlib.Core.Path.{_≡_};
 ghost use lib.ListN.{length};
-ghost use Rattle.codec.specs.Codec.{first};
 ghost use Rattle.codec.specs.Refusals.{checkNo, faultNo};
 ghost use Rattle.header.specs.Rules.{rulesKept};
 ghost use Rattle.header.specs.Sizes.{sizesRight};

@@ -2,7 +2,7 @@
 ghost use mathlib.Core.Path.{_≡_};
 ghost use mathlib.Core.List.{_++_};
 ghost use mathlib.Core.Bool.{false};
-ghost use Prim.Native.Nat.{_≤_, _+_, _*_};
+ghost use Prim.Native.Nat.{_≤_, _*_};
 ghost use lib.ListN.{length, drop, replicate};
 ghost use Rattle.bits.specs.Bits.{bitsOf, splice};
 ghost use Rattle.bits.specs.Units.{fillBits, wholeOctets};

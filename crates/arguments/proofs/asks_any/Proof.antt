@@ -1,5 +1,4 @@
 -- `arguments::asks_any` meets its contract. Assumes nothing.
-use borrow.Author.Needs.{needs}
 use borrow.Author.Tests.{not-true, not-false}
 use Rattle.order.specs.Requests.{askOf}
 use Rattle.arguments.proofs.Told.{no-first, asks-first, asks-second, asks-third}

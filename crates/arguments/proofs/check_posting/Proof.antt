@@ -2,19 +2,16 @@
 use borrow.Author.Needs.{needs}
 use mathlib.Core.Path.{_≡_, refl, ap, sym, _∙_, subst}
 use Prim.Native.Nat.{ℕ, _<_}
-use native.Mathlib.Omega.{arith}
 use lib.Dec.{lit<}
-use borrow.Author.Tests.{not-true, not-false, leb-true}
-use Rattle.header.specs.declared.Block.{Block}
+use borrow.Author.Tests.{not-true, not-false}
 use Rattle.writer.proofs.Parts.{blocks-legal}
 use Rattle.writer.proofs.Ways.{valid-fields}
 use Rattle.codec.specs.Codec.{viewed}
 use Rattle.codec.proofs.ListEnds.{count-most}
 use Rattle.header.specs.Zero.{noBlock}
 use Rattle.header.specs.Table.{block, blocks}
-use mathlib.Core.Bool.{_&&_}
 use Rattle.writer.specs.Writing.{faultOf}
-use Rattle.arguments.specs.Arguments.{hasBlock, blockAt, asks, someRecipient, oneRecipient, postingFault}
+use Rattle.arguments.specs.Arguments.{hasBlock, blockAt, asks, someRecipient, postingFault}
 use Rattle.arguments.specs.Told.{pendingNo, answerNo, answerPlace}
 use Rattle.arguments.proofs.Told.{written-no, written-fine, written-bad, at-record, at-block, at-group, at-addressees, at-none}
 use Rattle.arguments.proofs.check_posting.Statement.{statement}

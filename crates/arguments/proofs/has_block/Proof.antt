@@ -1,8 +1,6 @@
 -- `arguments::has_block` meets its contract. Assumes nothing.
-use borrow.Author.Needs.{needs}
-use mathlib.Core.Path.{sym, ap, _∙_}
 use native.Mathlib.Omega.{arith}
-use borrow.Author.Tests.{not-true, not-false, lt-leb, le-leb}
+use borrow.Author.Tests.{lt-leb, le-leb}
 use Rattle.arguments.proofs.Told.{no-first, by-second}
 use Rattle.arguments.proofs.has_block.Statement.{statement}
 use Rattle.arguments.proofs.has_block.Tie as tie

@@ -1,5 +1,4 @@
 -- `arguments::one_recipient` meets its contract. Assumes nothing.
-use borrow.Author.Needs.{needs}
 use borrow.Author.Tests.{not-true, not-false}
 use Rattle.arguments.proofs.Told.{no-first, no-second, by-third}
 use Rattle.arguments.proofs.one_recipient.Statement.{statement}

@@ -1,12 +1,10 @@
 -- `arguments::receipt_key` meets its contract. Assumes nothing.
-use borrow.Author.Needs.{needs}
 use mathlib.Core.Path.{_≡_, ap}
 use lib.ListN.{length}
 use native.Mathlib.Omega.{arith}
 use Rattle.codec.proofs.ListLaws.{unmapped}
 use Rattle.header.specs.Zero.{noAddress}
 use Rattle.header.specs.declared.Address.{Address}
-use Rattle.order.specs.declared.Key.{Key}
 use Rattle.arguments.proofs.Told.{any-default}
 use Rattle.arguments.proofs.receipt_key.Statement.{statement}
 use Rattle.arguments.proofs.receipt_key.Tie as tie

@@ -1,5 +1,4 @@
 -- `arguments::refusal` meets its contract. Assumes nothing.
-use borrow.Author.Needs.{needs}
 use mathlib.Core.Path.{refl}
 use Rattle.arguments.specs.Told.{answerNo, answerPlace}
 use Rattle.arguments.proofs.refusal.Statement.{statement}

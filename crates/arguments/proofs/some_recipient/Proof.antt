@@ -1,5 +1,4 @@
 -- `arguments::some_recipient` meets its contract. Assumes nothing.
-use borrow.Author.Needs.{needs}
 use borrow.Author.Tests.{not-true, not-false}
 use Rattle.arguments.proofs.Told.{no-first, by-second}
 use Rattle.arguments.proofs.some_recipient.Statement.{statement}

@@ -3,7 +3,6 @@ use borrow.Author.Needs.{needs}
 use Rattle.lines.proofs.play_blocks.Statement.{statement}
 use Rattle.lines.proofs.play_blocks.Tie as tie
 use Prim.Native.Nat.{_-_}
-use mathlib.Core.Path.{_≡_}
 use Rattle.lines.proofs.Playing.{Behind, behind-none, behind-more, behind-all}
 
 abbrev Inv-loop : tie.InvT-loop

@@ -2,11 +2,10 @@
 use borrow.Author.Needs.{needs}
 use Rattle.lines.proofs.put_line.Statement.{statement}
 use Rattle.lines.proofs.put_line.Tie as tie
-use Prim.Native.Nat.{_-_, _/_, _≤_}
-use mathlib.Core.Path.{_≡_, refl, sym, _∙_}
+use Prim.Native.Nat.{_-_, _≤_}
+use mathlib.Core.Path.{refl, sym}
 use native.Mathlib.Omega.{arith}
-use lib.ListN.{length}
-use Rattle.lines.proofs.Filling.{Filling, filling-none, filling-more, filling-all, line-length, line-fits, octets-count}
+use Rattle.lines.proofs.Filling.{Filling, filling-none, filling-more, filling-all, line-fits, octets-count}
 
 abbrev Inv-loop : tie.InvT-loop
 Inv-loop line out₀ n i₀ out i = Filling line out₀ i out × (i ≤ n)

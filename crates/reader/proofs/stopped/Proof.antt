@@ -1,7 +1,6 @@
 -- `reader::stopped` meets its contract. Assumes nothing.
 use borrow.Author.Needs.{needs}
-use mathlib.Core.Path.{_∙_, sym, ap}
-use Rattle.reader.specs.Told.{toTell, stoppedBy}
+use Rattle.reader.specs.Told.{stoppedBy}
 use Rattle.reader.proofs.stopped.Statement.{statement}
 use Rattle.reader.proofs.stopped.Tie as tie
 

@@ -1,7 +1,6 @@
 -- `text::end_text` meets its contract. Assumes nothing.
 use borrow.Author.Needs.{needs}
 use mathlib.Core.Path.{_≡_}
-use native.Mathlib.Omega.{arith}
 use lib.ListN.{length}
 use Rattle.text.proofs.Writing.{text-size}
 use Rattle.text.proofs.end_text.Statement.{statement}

@@ -1,5 +1,4 @@
 -- `writer::refusal` meets its contract. Assumes nothing.
-use borrow.Author.Needs.{needs}
 use mathlib.Core.Path.{refl}
 use Rattle.writer.specs.Writing.{told}
 use Rattle.writer.proofs.refusal.Statement.{statement}

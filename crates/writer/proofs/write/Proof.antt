@@ -1,6 +1,6 @@
 -- `writer::write` meets its contract. Assumes nothing.
 use borrow.Author.Needs.{needs}
-use mathlib.Core.Path.{_≡_, sym, ap, _∙_}
+use mathlib.Core.Path.{sym, ap, _∙_}
 use native.Mathlib.Omega.{arith}
 use Rattle.writer.specs.Writing.{told, done}
 use Rattle.writer.proofs.Ways.{refused-alike, refused-stays, valid-done, no-room, is-written, valid-fields}

@@ -1,6 +1,6 @@
 -- `deeds::row::settle` meets its contract. Assumes nothing.
 use borrow.Author.Needs.{needs}
-use mathlib.Core.Path.{refl, sym, ap, _∙_}
+use mathlib.Core.Path.{refl}
 use Rattle.deeds.proofs.Building.{settle-is}
 use Rattle.deeds.proofs.row.settle.Statement.{statement}
 use Rattle.deeds.proofs.row.settle.Tie as tie

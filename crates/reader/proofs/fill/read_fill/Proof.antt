@@ -1,7 +1,7 @@
 -- `reader::fill::read_fill` meets its contract. The invariant: what is left of the fill bits is read from here. Assumes nothing.
 use borrow.Author.Needs.{needs}
 use Prim.Native.Nat.{ℕ}
-use mathlib.Core.Path.{_≡_, refl, ap, sym, _∙_}
+use mathlib.Core.Path.{_≡_, ap, sym, _∙_}
 use native.Mathlib.Omega.{arith}
 use Rattle.bits.specs.Units.{fillBits}
 use Rattle.bits.specs.Bits.{bitsOf}
