@@ -22,7 +22,7 @@ use Rattle.table.specs.Rows.{see}
 use Rattle.table.specs.WellFormed.{wellFormed}
 use Rattle.table.specs.declared.Table.{Table}
 use Rattle.arguments.specs.Arguments.{Arguments, posting, receiving, releasing, hasBlock, blockAt, asks, someRecipient, oneRecipient, named, postingFault, receiptFault, callOf}
-use Rattle.listing.specs.Text.{listed}
+use Rattle.row_text.specs.Text.{listed}
 use Rattle.listing.specs.Listing.{done, rejected, listingOf, listing}
 use Rattle.history.specs.History.{Run}
 use Rattle.history.proofs.Runs.{AllWell, onRows, went, empty-well}

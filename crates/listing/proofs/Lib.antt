@@ -1,6 +1,1 @@
-pub mod Composing
-mod Decimals
-mod Lines
-mod Texts
 mod Ways
-pub mod Bounded

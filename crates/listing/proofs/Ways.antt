@@ -11,9 +11,9 @@ use Rattle.table.specs.Rows.{rowOf, usedRows, see}
 use Rattle.table.specs.WellFormed.{wellFormed}
 use Rattle.table.specs.declared.Row.{Row}
 use Rattle.table.specs.declared.Table.{Table}
-use Rattle.listing.specs.Text.{rowText, countLine, rowAt, listed}
+use Rattle.row_text.specs.Text.{rowText, countLine, rowAt, listed}
+use Rattle.row_text.specs.Puts.{Puts}
 use Rattle.listing.specs.Listing.{Listing, done, rejected, listingOf, listing, outputAfter}
-use Rattle.listing.specs.Puts.{Puts}
 
 at-row : (l : List Row) (i : ℕ) (d : Row) → i < length l → rowAt (map rowOf l) i ≡ rowText (rowOf (getD l i d))
 unfolding rowAt

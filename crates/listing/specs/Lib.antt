@@ -1,4 +1,1 @@
-pub mod Text
 pub mod Listing
-pub mod Puts
-pub mod Parts

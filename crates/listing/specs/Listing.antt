@@ -8,7 +8,7 @@ use Rattle.order.specs.Calls.{Rows}
 use Rattle.table.specs.Rows.{see}
 use Rattle.table.specs.WellFormed.{wellFormed}
 use Rattle.table.specs.declared.Table.{Table}
-use Rattle.listing.specs.Text.{listed}
+use Rattle.row_text.specs.Text.{listed}
 use Rattle.listing.specs.declared.Listed.{Listed}
 use Rattle.listing.specs.declared.ListingFault.{ListingFault}
 use Rattle.listing.specs.declared.ListingFault.the-variants.{NoRoom, IllFormed}

@@ -3,18 +3,13 @@ ghost use mathlib.Core.Path.{_≡_};
 ghost use Prim.Native.Nat.{_≤_};
 ghost use lib.ListN.{length};
 ghost use Rattle.table.specs.Rows.{see};
-ghost use Rattle.listing.specs.Text.{listed};
+ghost use Rattle.row_text.specs.Text.{listed};
+ghost use Rattle.row_text.specs.Puts.{Puts};
 ghost use Rattle.listing.specs.Listing.{rejected, listing, outputAfter, listingNo, told};
-ghost use Rattle.listing.specs.Puts.{Puts};
 use bits::BitPlace;
 use bits::OctetSize;
 use inspect::inspect;
 use table::Table;
-
-pub mod addresses;
-pub mod digits;
-pub mod recipients;
-pub mod rows;
 
 // Why a row is not listed.
 pub enum ListingFault {
@@ -42,14 +37,14 @@ fn listed_length(t: Table, number: u32) -> OctetSize
 {
     let count = t.count;
     if number == 0 {
-        return rows::count_line_length(count);
+        return row_text::rows::count_line_length(count);
     }
     if count < number {
         return OctetSize(0);
     }
     let i = (number - 1) as usize;
     let row = t.rows[i];
-    rows::row_length(row)
+    row_text::rows::row_length(row)
 }
 
 fn put_listed(out: &mut [u8], t: Table, number: u32) -> OctetSize
@@ -58,14 +53,14 @@ fn put_listed(out: &mut [u8], t: Table, number: u32) -> OctetSize
 {
     let count = t.count;
     if number == 0 {
-        return rows::put_count_line(out, OctetSize(0), count);
+        return row_text::rows::put_count_line(out, OctetSize(0), count);
     }
     if count < number {
         return OctetSize(0);
     }
     let i = (number - 1) as usize;
     let row = t.rows[i];
-    rows::put_row(out, OctetSize(0), row)
+    row_text::rows::put_row(out, OctetSize(0), row)
 }
 
 // Writes a row of the listing: the table has to be well formed (30), then there has to be room (11);

@@ -4,7 +4,7 @@ use mathlib.Core.Path.{_≡_, ap}
 use lib.ListN.{length}
 use native.Mathlib.Omega.{arith}
 use Rattle.codec.proofs.ListLaws.{unmapped}
-use Rattle.listing.proofs.Composing.{nothing-puts, same-puts}
+use Rattle.row_text.proofs.Composing.{nothing-puts, same-puts}
 use Rattle.listing.proofs.Ways.{count-listed, none-listed, row-listed, row-room}
 use Rattle.listing.proofs.put_listed.Statement.{statement}
 use Rattle.listing.proofs.put_listed.Tie as tie

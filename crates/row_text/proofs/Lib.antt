@@ -1,0 +1,5 @@
+pub mod Composing
+mod Decimals
+mod Lines
+mod Texts
+pub mod Bounded

@@ -1,0 +1,11 @@
+-- `row_text::recipients::requests_length` meets its contract. Assumes nothing.
+use borrow.Author.Needs.{needs}
+use Rattle.row_text.proofs.Texts.{requests-length}
+use Rattle.row_text.proofs.recipients.requests_length.Statement.{statement}
+use Rattle.row_text.proofs.recipients.requests_length.Tie as tie
+
+returns : tie.Need-returns
+returns c = let e = requests-length (c .before .before .before .before .before .before .args .asked) (c .before .before .before .before .before .before .args .r) in search needs
+
+pub requests-length-spec : {M : Type 1} → statement M
+requests-length-spec = tie.close (tie.spec (λ c κs. search needs) (λ c κs. search needs) (λ c κs. search needs) (λ c. search needs) (λ c. search needs) returns)
