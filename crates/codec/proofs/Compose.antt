@@ -1,7 +1,7 @@
 -- How the readings, writings, checks and ends of fields make those of a group. The proofs of functions that go field by field cite the rule sets.
 -- Each law's middle terms stand in a premise that a callee's contract or a pattern proves as it stands, so that `search` finds them. Assumes nothing.
 use Prim.Native.Nat.{ℕ, zero, suc}
-use mathlib.Core.Path.{_≡_, refl, ap, ap₂, sym, _∙_}
+use mathlib.Core.Path.{_≡_, refl, ap, ap₂, sym, subst, _∙_}
 use mathlib.Core.Bool.{Bool, true, false}
 use mathlib.Core.List.{List}
 use lib.ListN.{length-append}
@@ -41,6 +41,10 @@ ended c bs p x q g = g .read
 pub stopped : {A : Type 0} (c : Codec A) (bs : List Bool) (p : ℕ) (x : A) (st : Step) → Stops c bs p st → answer st x ≡ c .read bs p
 unfolding answer
 stopped c bs p x st s = rw (s .is) (s .read)
+
+-- a part that the bits leave out: its presence, which was read, is false
+pub left-out : {A : Type 0} (c : Codec A) (bs : List Bool) (p : ℕ) (f : Bool → A) (q : BitPlace) (b : Bool) → b ≡ false → answer (Step.Next q) (f b) ≡ c .read bs p → answer (Step.Next q) (f false) ≡ c .read bs p
+left-out c bs p f q b e r = subst (λ (z : Bool). answer (Step.Next q) (f z) ≡ c .read bs p) e r
 
 -- a refusal that another function hands on
 pub stopped-as : {A : Type 0} (c : Codec A) (bs : List Bool) (p : ℕ) (x : A) (st u : Step) → st ≡ u → Stops c bs p u → answer st x ≡ c .read bs p

@@ -66,7 +66,7 @@ pub struct BlocksRead {
     pub blocks: Blocks,
 }
 
-// The refusal that the head ended with; what it has read is not looked at.
+// A refusal on the way; what was read is not looked at.
 fn stopped_head(step: Step) -> HeadRead
     ensures { λ r. ⌜ r .step ≡ step ⌝ }
 {
@@ -108,45 +108,42 @@ fn read_head(s: &[u8], at: BitPlace) -> HeadRead
     }
 }
 
+// A refusal on the way; what was read is not looked at.
+fn stopped_tail(step: Step) -> TailRead
+    ensures { λ r. ⌜ r .step ≡ step ⌝ }
+{
+    TailRead {
+        step: step,
+        response: OptionalResponse {
+            present: false,
+            response: no_response(),
+        },
+        references: OptionalReferences {
+            present: false,
+            references: no_references(),
+        },
+    }
+}
+
 fn read_tail(s: &[u8], at: BitPlace) -> TailRead
     requires { ⌜ length (now s) ≤ datagramLimit ⌝ }
     ensures { λ r. ⌜ answer (r .step) (r .response, r .references) ≡ (optionalResponse & (optionalReferences closedBy 7)) .read (bitsOf (now (s .entry))) (at .0) ⌝ }
 {
-    let unanswered = OptionalResponse {
-        present: false,
-        response: no_response(),
-    };
-    let unreferred = OptionalReferences {
-        present: false,
-        references: no_references(),
-    };
     let a = read_optional_response(s, at);
     let response = a.response;
     let step = a.step;
     let Step::Next(at) = step else {
-        return TailRead {
-            step: step,
-            response: unanswered,
-            references: unreferred,
-        };
+        return stopped_tail(step);
     };
     let a = read_optional_references(s, at);
     let references = a.references;
     let step = a.step;
     let Step::Next(at) = step else {
-        return TailRead {
-            step: step,
-            response: unanswered,
-            references: unreferred,
-        };
+        return stopped_tail(step);
     };
     let step = read_zero(s, at, Fault::Security);
     let Step::Next(at) = step else {
-        return TailRead {
-            step: step,
-            response: unanswered,
-            references: unreferred,
-        };
+        return stopped_tail(step);
     };
     TailRead {
         step: Step::Next(at),

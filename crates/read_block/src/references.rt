@@ -143,15 +143,15 @@ pub fn read_optional_references(s: &[u8], at: BitPlace) -> OptionalReferencesRea
     requires { ⌜ length (now s) ≤ datagramLimit ⌝ }
     ensures { λ r. ⌜ answer (r .step) (r .references) ≡ optionalReferences .read (bitsOf (now (s .entry))) (at .0) ⌝ }
 {
-    let none = no_references();
+    let none = OptionalReferences {
+        present: false,
+        references: no_references(),
+    };
     let a = read_flag(s, at);
     let Flag::Got(present, at) = a else {
         return OptionalReferencesRead {
             step: a.step(),
-            references: OptionalReferences {
-                present: false,
-                references: none,
-            },
+            references: none,
         };
     };
     if present {
@@ -161,10 +161,7 @@ pub fn read_optional_references(s: &[u8], at: BitPlace) -> OptionalReferencesRea
         let Step::Next(at) = step else {
             return OptionalReferencesRead {
                 step: step,
-                references: OptionalReferences {
-                    present: false,
-                    references: none,
-                },
+                references: none,
             };
         };
         return OptionalReferencesRead {
@@ -177,9 +174,6 @@ pub fn read_optional_references(s: &[u8], at: BitPlace) -> OptionalReferencesRea
     }
     OptionalReferencesRead {
         step: Step::Next(at),
-        references: OptionalReferences {
-            present: present,
-            references: none,
-        },
+        references: none,
     }
 }

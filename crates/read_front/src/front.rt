@@ -66,15 +66,15 @@ pub fn read_originator(s: &[u8], at: BitPlace) -> OriginatorRead
     requires { ⌜ length (now s) ≤ datagramLimit ⌝ }
     ensures { λ r. ⌜ answer (r .step) (r .originator) ≡ originator .read (bitsOf (now (s .entry))) (at .0) ⌝ }
 {
-    let none = no_address();
+    let none = OptionalAddress {
+        present: false,
+        address: no_address(),
+    };
     let a = read_flag(s, at);
     let Flag::Got(present, at) = a else {
         return OriginatorRead {
             step: a.step(),
-            originator: OptionalAddress {
-                present: false,
-                address: none,
-            },
+            originator: none,
         };
     };
     if present {
@@ -84,10 +84,7 @@ pub fn read_originator(s: &[u8], at: BitPlace) -> OriginatorRead
         let Step::Next(at) = step else {
             return OriginatorRead {
                 step: step,
-                originator: OptionalAddress {
-                    present: false,
-                    address: none,
-                },
+                originator: none,
             };
         };
         return OriginatorRead {
@@ -100,10 +97,7 @@ pub fn read_originator(s: &[u8], at: BitPlace) -> OriginatorRead
     }
     OriginatorRead {
         step: Step::Next(at),
-        originator: OptionalAddress {
-            present: present,
-            address: none,
-        },
+        originator: none,
     }
 }
 
@@ -112,15 +106,15 @@ pub fn read_recipients(s: &[u8], at: BitPlace) -> AddresseesRead
     requires { ⌜ length (now s) ≤ datagramLimit ⌝ }
     ensures { λ r. ⌜ answer (r .step) (r .addressees) ≡ recipients .read (bitsOf (now (s .entry))) (at .0) ⌝ }
 {
-    let none = no_addresses();
+    let none = OptionalAddresses {
+        present: false,
+        addresses: no_addresses(),
+    };
     let a = read_flag(s, at);
     let Flag::Got(present, at) = a else {
         return AddresseesRead {
             step: a.step(),
-            addressees: OptionalAddresses {
-                present: false,
-                addresses: none,
-            },
+            addressees: none,
         };
     };
     if present {
@@ -130,10 +124,7 @@ pub fn read_recipients(s: &[u8], at: BitPlace) -> AddresseesRead
         let Step::Next(at) = step else {
             return AddresseesRead {
                 step: step,
-                addressees: OptionalAddresses {
-                    present: false,
-                    addresses: none,
-                },
+                addressees: none,
             };
         };
         return AddresseesRead {
@@ -146,10 +137,7 @@ pub fn read_recipients(s: &[u8], at: BitPlace) -> AddresseesRead
     }
     AddresseesRead {
         step: Step::Next(at),
-        addressees: OptionalAddresses {
-            present: present,
-            addresses: none,
-        },
+        addressees: none,
     }
 }
 
@@ -158,16 +146,16 @@ pub fn read_information(s: &[u8], at: BitPlace, room: usize) -> AddresseesRead
     requires { ⌜ (length (now s) ≤ datagramLimit) × (room ≤ 16) ⌝ }
     ensures { λ r. ⌜ answer (r .step) (r .addressees) ≡ information room .read (bitsOf (now (s .entry))) (at .0) ⌝ }
 {
-    let none = no_addresses();
+    let none = OptionalAddresses {
+        present: false,
+        addresses: no_addresses(),
+    };
     let left = one_less(room);
     let a = read_recurs(s, at, room);
     let Flag::Got(present, at) = a else {
         return AddresseesRead {
             step: a.step(),
-            addressees: OptionalAddresses {
-                present: false,
-                addresses: none,
-            },
+            addressees: none,
         };
     };
     if present {
@@ -177,10 +165,7 @@ pub fn read_information(s: &[u8], at: BitPlace, room: usize) -> AddresseesRead
         let Step::Next(at) = step else {
             return AddresseesRead {
                 step: step,
-                addressees: OptionalAddresses {
-                    present: false,
-                    addresses: none,
-                },
+                addressees: none,
             };
         };
         return AddresseesRead {
@@ -193,9 +178,21 @@ pub fn read_information(s: &[u8], at: BitPlace, room: usize) -> AddresseesRead
     }
     AddresseesRead {
         step: Step::Next(at),
-        addressees: OptionalAddresses {
-            present: present,
-            addresses: none,
+        addressees: none,
+    }
+}
+
+// A refusal on the way; what was read is not looked at.
+fn stopped_origin(step: Step) -> OriginRead
+    ensures { λ r. ⌜ r .step ≡ step ⌝ }
+{
+    OriginRead {
+        step: step,
+        version: 0,
+        compression: NO_NUMBER,
+        originator: OptionalAddress {
+            present: false,
+            address: no_address(),
         },
     }
 }
@@ -204,40 +201,21 @@ fn read_origin(s: &[u8], at: BitPlace) -> OriginRead
     requires { ⌜ length (now s) ≤ datagramLimit ⌝ }
     ensures { λ r. ⌜ answer (r .step) (r .version, (r .compression, r .originator)) ≡ (number 4 2 2 2 & maybe 2 0 1 & originator) .read (bitsOf (now (s .entry))) (at .0) ⌝ }
 {
-    let none = OptionalAddress {
-        present: false,
-        address: no_address(),
-    };
     let a = read_number(s, at, VERSION, Fault::Version);
     let Number::Got(version, at) = a else {
-        return OriginRead {
-            step: a.step(),
-            version: 0,
-            compression: NO_NUMBER,
-            originator: none,
-        };
+        return stopped_origin(a.step());
     };
     let a = read_optional(s, at, COMPRESSION);
     let compression = a.number;
     let step = a.step;
     let Step::Next(at) = step else {
-        return OriginRead {
-            step: step,
-            version: 0,
-            compression: NO_NUMBER,
-            originator: none,
-        };
+        return stopped_origin(step);
     };
     let a = read_originator(s, at);
     let originator = a.originator;
     let step = a.step;
     let Step::Next(at) = step else {
-        return OriginRead {
-            step: step,
-            version: 0,
-            compression: NO_NUMBER,
-            originator: none,
-        };
+        return stopped_origin(step);
     };
     OriginRead {
         step: Step::Next(at),

@@ -26,15 +26,15 @@ pub fn read_optional_text(s: &[u8], at: BitPlace, most: usize) -> OptionalTextRe
     requires { ⌜ (length (now s) ≤ datagramLimit) × (most ≤ 64) ⌝ }
     ensures { λ r. ⌜ answer (r .step) (r .text) ≡ optionalText most .read (bitsOf (now (s .entry))) (at .0) ⌝ }
 {
-    let none = no_text();
+    let none = OptionalText {
+        present: false,
+        text: no_text(),
+    };
     let a = read_flag(s, at);
     let Flag::Got(present, at) = a else {
         return OptionalTextRead {
             step: a.step(),
-            text: OptionalText {
-                present: false,
-                text: none,
-            },
+            text: none,
         };
     };
     if present {
@@ -44,10 +44,7 @@ pub fn read_optional_text(s: &[u8], at: BitPlace, most: usize) -> OptionalTextRe
         let Step::Next(at) = step else {
             return OptionalTextRead {
                 step: step,
-                text: OptionalText {
-                    present: false,
-                    text: none,
-                },
+                text: none,
             };
         };
         return OptionalTextRead {
@@ -60,10 +57,7 @@ pub fn read_optional_text(s: &[u8], at: BitPlace, most: usize) -> OptionalTextRe
     }
     OptionalTextRead {
         step: Step::Next(at),
-        text: OptionalText {
-            present: present,
-            text: none,
-        },
+        text: none,
     }
 }
 
@@ -73,15 +67,15 @@ pub fn read_unit_name(s: &[u8], at: BitPlace, due: bool) -> OptionalTextRead
     requires { ⌜ length (now s) ≤ datagramLimit ⌝ }
     ensures { λ r. ⌜ answer (r .step) (r .text) ≡ unitName due .read (bitsOf (now (s .entry))) (at .0) ⌝ }
 {
-    let none = no_text();
+    let none = OptionalText {
+        present: false,
+        text: no_text(),
+    };
     let a = read_must(s, at, due, Fault::Forms);
     let Flag::Got(present, at) = a else {
         return OptionalTextRead {
             step: a.step(),
-            text: OptionalText {
-                present: false,
-                text: none,
-            },
+            text: none,
         };
     };
     if present {
@@ -91,10 +85,7 @@ pub fn read_unit_name(s: &[u8], at: BitPlace, due: bool) -> OptionalTextRead
         let Step::Next(at) = step else {
             return OptionalTextRead {
                 step: step,
-                text: OptionalText {
-                    present: false,
-                    text: none,
-                },
+                text: none,
             };
         };
         return OptionalTextRead {
@@ -107,9 +98,6 @@ pub fn read_unit_name(s: &[u8], at: BitPlace, due: bool) -> OptionalTextRead
     }
     OptionalTextRead {
         step: Step::Next(at),
-        text: OptionalText {
-            present: present,
-            text: none,
-        },
+        text: none,
     }
 }

@@ -84,14 +84,15 @@ pub fn read_optional_identity(s: &[u8], at: BitPlace) -> OptionalIdentityRead
     requires { ⌜ length (now s) ≤ datagramLimit ⌝ }
     ensures { λ r. ⌜ answer (r .step) (r .identity) ≡ optionalIdentity .read (bitsOf (now (s .entry))) (at .0) ⌝ }
 {
+    let none = OptionalIdentity {
+        present: false,
+        identity: NO_IDENTITY,
+    };
     let a = read_flag(s, at);
     let Flag::Got(present, at) = a else {
         return OptionalIdentityRead {
             step: a.step(),
-            identity: OptionalIdentity {
-                present: false,
-                identity: NO_IDENTITY,
-            },
+            identity: none,
         };
     };
     if present {
@@ -101,10 +102,7 @@ pub fn read_optional_identity(s: &[u8], at: BitPlace) -> OptionalIdentityRead
         let Step::Next(at) = step else {
             return OptionalIdentityRead {
                 step: step,
-                identity: OptionalIdentity {
-                    present: false,
-                    identity: NO_IDENTITY,
-                },
+                identity: none,
             };
         };
         return OptionalIdentityRead {
@@ -117,10 +115,17 @@ pub fn read_optional_identity(s: &[u8], at: BitPlace) -> OptionalIdentityRead
     }
     OptionalIdentityRead {
         step: Step::Next(at),
-        identity: OptionalIdentity {
-            present: present,
-            identity: NO_IDENTITY,
-        },
+        identity: none,
+    }
+}
+
+// A refusal on the way; what was read is not looked at.
+fn stopped_format(step: Step) -> FormatRead
+    ensures { λ r. ⌜ r .step ≡ step ⌝ }
+{
+    FormatRead {
+        step: step,
+        format: no_format(),
     }
 }
 
@@ -130,37 +135,25 @@ pub fn read_format(s: &[u8], at: BitPlace) -> FormatRead
 {
     let a = read_number(s, at, UMF, Fault::Code);
     let Number::Got(umf, at) = a else {
-        return FormatRead {
-            step: a.step(),
-            format: no_format(),
-        };
+        return stopped_format(a.step());
     };
     let a = read_optional(s, at, STANDARD_VERSION);
     let version = a.number;
     let step = a.step;
     let Step::Next(at) = step else {
-        return FormatRead {
-            step: step,
-            format: no_format(),
-        };
+        return stopped_format(step);
     };
     let a = read_optional_identity(s, at);
     let identity = a.identity;
     let step = a.step;
     let Step::Next(at) = step else {
-        return FormatRead {
-            step: step,
-            format: no_format(),
-        };
+        return stopped_format(step);
     };
     let a = read_optional_text(s, at, FILE);
     let file = a.text;
     let step = a.step;
     let Step::Next(at) = step else {
-        return FormatRead {
-            step: step,
-            format: no_format(),
-        };
+        return stopped_format(step);
     };
     FormatRead {
         step: Step::Next(at),

@@ -34,37 +34,35 @@ pub struct HandlingRead {
     pub handling: Handling,
 }
 
+// A refusal on the way; what was read is not looked at.
+fn stopped_codes(step: Step) -> CodesRead
+    ensures { λ r. ⌜ r .step ≡ step ⌝ }
+{
+    CodesRead {
+        step: step,
+        codes: NO_CODES,
+    }
+}
+
 pub fn read_codes(s: &[u8], at: BitPlace) -> CodesRead
     requires { ⌜ length (now s) ≤ datagramLimit ⌝ }
     ensures { λ r. ⌜ answer (r .step) (r .codes) ≡ codes .read (bitsOf (now (s .entry))) (at .0) ⌝ }
 {
     let a = read_number(s, at, OPERATION, Fault::Code);
     let Number::Got(operation, at) = a else {
-        return CodesRead {
-            step: a.step(),
-            codes: NO_CODES,
-        };
+        return stopped_codes(a.step());
     };
     let a = read_number(s, at, RETRANSMIT, Fault::Code);
     let Number::Got(retransmit, at) = a else {
-        return CodesRead {
-            step: a.step(),
-            codes: NO_CODES,
-        };
+        return stopped_codes(a.step());
     };
     let a = read_number(s, at, PRECEDENCE, Fault::Code);
     let Number::Got(precedence, at) = a else {
-        return CodesRead {
-            step: a.step(),
-            codes: NO_CODES,
-        };
+        return stopped_codes(a.step());
     };
     let a = read_number(s, at, CLASSIFICATION, Fault::Code);
     let Number::Got(classification, at) = a else {
-        return CodesRead {
-            step: a.step(),
-            codes: NO_CODES,
-        };
+        return stopped_codes(a.step());
     };
     CodesRead {
         step: Step::Next(at),
@@ -77,6 +75,16 @@ pub fn read_codes(s: &[u8], at: BitPlace) -> CodesRead
     }
 }
 
+// A refusal on the way; what was read is not looked at.
+fn stopped_handling(step: Step) -> HandlingRead
+    ensures { λ r. ⌜ r .step ≡ step ⌝ }
+{
+    HandlingRead {
+        step: step,
+        handling: no_handling(),
+    }
+}
+
 pub fn read_handling(s: &[u8], at: BitPlace) -> HandlingRead
     requires { ⌜ length (now s) ≤ datagramLimit ⌝ }
     ensures { λ r. ⌜ answer (r .step) (r .handling) ≡ handling .read (bitsOf (now (s .entry))) (at .0) ⌝ }
@@ -85,28 +93,19 @@ pub fn read_handling(s: &[u8], at: BitPlace) -> HandlingRead
     let size = a.number;
     let step = a.step;
     let Step::Next(at) = step else {
-        return HandlingRead {
-            step: step,
-            handling: no_handling(),
-        };
+        return stopped_handling(step);
     };
     let a = read_codes(s, at);
     let codes = a.codes;
     let step = a.step;
     let Step::Next(at) = step else {
-        return HandlingRead {
-            step: step,
-            handling: no_handling(),
-        };
+        return stopped_handling(step);
     };
     let a = read_optional_text(s, at, MARKING);
     let marking = a.text;
     let step = a.step;
     let Step::Next(at) = step else {
-        return HandlingRead {
-            step: step,
-            handling: no_handling(),
-        };
+        return stopped_handling(step);
     };
     HandlingRead {
         step: Step::Next(at),

@@ -80,6 +80,16 @@ pub fn read_compliance(s: &[u8], at: BitPlace) -> ComplianceRead
     }
 }
 
+// A refusal on the way; what was read is not looked at.
+fn stopped_response(step: Step) -> ResponseRead
+    ensures { λ r. ⌜ r .step ≡ step ⌝ }
+{
+    ResponseRead {
+        step: step,
+        response: no_response(),
+    }
+}
+
 pub fn read_response(s: &[u8], at: BitPlace) -> ResponseRead
     requires { ⌜ length (now s) ≤ datagramLimit ⌝ }
     ensures { λ r. ⌜ answer (r .step) (r .response) ≡ response .read (bitsOf (now (s .entry))) (at .0) ⌝ }
@@ -88,28 +98,19 @@ pub fn read_response(s: &[u8], at: BitPlace) -> ResponseRead
     let stamp = a.stamp;
     let step = a.step;
     let Step::Next(at) = step else {
-        return ResponseRead {
-            step: step,
-            response: no_response(),
-        };
+        return stopped_response(step);
     };
     let a = read_compliance(s, at);
     let compliance = a.compliance;
     let step = a.step;
     let Step::Next(at) = step else {
-        return ResponseRead {
-            step: step,
-            response: no_response(),
-        };
+        return stopped_response(step);
     };
     let a = read_optional_text(s, at, AMPLIFICATION);
     let amplification = a.text;
     let step = a.step;
     let Step::Next(at) = step else {
-        return ResponseRead {
-            step: step,
-            response: no_response(),
-        };
+        return stopped_response(step);
     };
     ResponseRead {
         step: Step::Next(at),
@@ -125,15 +126,15 @@ pub fn read_optional_response(s: &[u8], at: BitPlace) -> OptionalResponseRead
     requires { ⌜ length (now s) ≤ datagramLimit ⌝ }
     ensures { λ r. ⌜ answer (r .step) (r .response) ≡ optionalResponse .read (bitsOf (now (s .entry))) (at .0) ⌝ }
 {
-    let none = no_response();
+    let none = OptionalResponse {
+        present: false,
+        response: no_response(),
+    };
     let a = read_flag(s, at);
     let Flag::Got(present, at) = a else {
         return OptionalResponseRead {
             step: a.step(),
-            response: OptionalResponse {
-                present: false,
-                response: none,
-            },
+            response: none,
         };
     };
     if present {
@@ -143,10 +144,7 @@ pub fn read_optional_response(s: &[u8], at: BitPlace) -> OptionalResponseRead
         let Step::Next(at) = step else {
             return OptionalResponseRead {
                 step: step,
-                response: OptionalResponse {
-                    present: false,
-                    response: none,
-                },
+                response: none,
             };
         };
         return OptionalResponseRead {
@@ -159,9 +157,6 @@ pub fn read_optional_response(s: &[u8], at: BitPlace) -> OptionalResponseRead
     }
     OptionalResponseRead {
         step: Step::Next(at),
-        response: OptionalResponse {
-            present: present,
-            response: none,
-        },
+        response: none,
     }
 }

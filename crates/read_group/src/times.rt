@@ -52,14 +52,15 @@ pub fn read_optional_stamp(s: &[u8], at: BitPlace) -> OptionalStampRead
     requires { ⌜ length (now s) ≤ datagramLimit ⌝ }
     ensures { λ r. ⌜ answer (r .step) (r .stamp) ≡ optionalStamp .read (bitsOf (now (s .entry))) (at .0) ⌝ }
 {
+    let none = OptionalStamp {
+        present: false,
+        stamp: NO_STAMP,
+    };
     let a = read_flag(s, at);
     let Flag::Got(present, at) = a else {
         return OptionalStampRead {
             step: a.step(),
-            stamp: OptionalStamp {
-                present: false,
-                stamp: NO_STAMP,
-            },
+            stamp: none,
         };
     };
     if present {
@@ -69,10 +70,7 @@ pub fn read_optional_stamp(s: &[u8], at: BitPlace) -> OptionalStampRead
         let Step::Next(at) = step else {
             return OptionalStampRead {
                 step: step,
-                stamp: OptionalStamp {
-                    present: false,
-                    stamp: NO_STAMP,
-                },
+                stamp: none,
             };
         };
         return OptionalStampRead {
@@ -85,10 +83,7 @@ pub fn read_optional_stamp(s: &[u8], at: BitPlace) -> OptionalStampRead
     }
     OptionalStampRead {
         step: Step::Next(at),
-        stamp: OptionalStamp {
-            present: present,
-            stamp: NO_STAMP,
-        },
+        stamp: none,
     }
 }
 
@@ -97,14 +92,15 @@ pub fn read_optional_dtg(s: &[u8], at: BitPlace) -> OptionalDtgRead
     requires { ⌜ length (now s) ≤ datagramLimit ⌝ }
     ensures { λ r. ⌜ answer (r .step) (r .dtg) ≡ optionalDtg .read (bitsOf (now (s .entry))) (at .0) ⌝ }
 {
+    let none = OptionalDtg {
+        present: false,
+        dtg: NO_DTG,
+    };
     let a = read_flag(s, at);
     let Flag::Got(present, at) = a else {
         return OptionalDtgRead {
             step: a.step(),
-            dtg: OptionalDtg {
-                present: false,
-                dtg: NO_DTG,
-            },
+            dtg: none,
         };
     };
     if present {
@@ -114,10 +110,7 @@ pub fn read_optional_dtg(s: &[u8], at: BitPlace) -> OptionalDtgRead
         let Step::Next(at) = step else {
             return OptionalDtgRead {
                 step: step,
-                dtg: OptionalDtg {
-                    present: false,
-                    dtg: NO_DTG,
-                },
+                dtg: none,
             };
         };
         return OptionalDtgRead {
@@ -130,10 +123,7 @@ pub fn read_optional_dtg(s: &[u8], at: BitPlace) -> OptionalDtgRead
     }
     OptionalDtgRead {
         step: Step::Next(at),
-        dtg: OptionalDtg {
-            present: present,
-            dtg: NO_DTG,
-        },
+        dtg: none,
     }
 }
 
@@ -177,14 +167,15 @@ pub fn read_optional_requests(s: &[u8], at: BitPlace) -> OptionalRequestsRead
     requires { ⌜ length (now s) ≤ datagramLimit ⌝ }
     ensures { λ r. ⌜ answer (r .step) (r .requests) ≡ optionalRequests .read (bitsOf (now (s .entry))) (at .0) ⌝ }
 {
+    let none = OptionalRequests {
+        present: false,
+        requests: NO_REQUESTS,
+    };
     let a = read_flag(s, at);
     let Flag::Got(present, at) = a else {
         return OptionalRequestsRead {
             step: a.step(),
-            requests: OptionalRequests {
-                present: false,
-                requests: NO_REQUESTS,
-            },
+            requests: none,
         };
     };
     if present {
@@ -194,10 +185,7 @@ pub fn read_optional_requests(s: &[u8], at: BitPlace) -> OptionalRequestsRead
         let Step::Next(at) = step else {
             return OptionalRequestsRead {
                 step: step,
-                requests: OptionalRequests {
-                    present: false,
-                    requests: NO_REQUESTS,
-                },
+                requests: none,
             };
         };
         return OptionalRequestsRead {
@@ -210,10 +198,17 @@ pub fn read_optional_requests(s: &[u8], at: BitPlace) -> OptionalRequestsRead
     }
     OptionalRequestsRead {
         step: Step::Next(at),
-        requests: OptionalRequests {
-            present: present,
-            requests: NO_REQUESTS,
-        },
+        requests: none,
+    }
+}
+
+// A refusal on the way; what was read is not looked at.
+fn stopped_times(step: Step) -> TimesRead
+    ensures { λ r. ⌜ r .step ≡ step ⌝ }
+{
+    TimesRead {
+        step: step,
+        times: NO_TIMES,
     }
 }
 
@@ -221,33 +216,23 @@ pub fn read_times(s: &[u8], at: BitPlace) -> TimesRead
     requires { ⌜ length (now s) ≤ datagramLimit ⌝ }
     ensures { λ r. ⌜ answer (r .step) (r .times) ≡ times .read (bitsOf (now (s .entry))) (at .0) ⌝ }
 {
-    let none = NO_TIMES;
     let a = read_optional_stamp(s, at);
     let origin = a.stamp;
     let step = a.step;
     let Step::Next(at) = step else {
-        return TimesRead {
-            step: step,
-            times: none,
-        };
+        return stopped_times(step);
     };
     let a = read_optional_dtg(s, at);
     let perish = a.dtg;
     let step = a.step;
     let Step::Next(at) = step else {
-        return TimesRead {
-            step: step,
-            times: none,
-        };
+        return stopped_times(step);
     };
     let a = read_optional_requests(s, at);
     let requests = a.requests;
     let step = a.step;
     let Step::Next(at) = step else {
-        return TimesRead {
-            step: step,
-            times: none,
-        };
+        return stopped_times(step);
     };
     TimesRead {
         step: Step::Next(at),

@@ -47,6 +47,16 @@ pub fn no_text() -> Text
     }
 }
 
+// A refusal on the way; what was read is not looked at.
+fn stopped_text(step: Step) -> TextRead
+    ensures { λ r. ⌜ r .step ≡ step ⌝ }
+{
+    TextRead {
+        step: step,
+        text: no_text(),
+    }
+}
+
 // A text of at most `most` characters. The loop yields the count of characters: at the marker, at the
 // maximum, behind which there is no marker, or where a character lacks bits.
 pub fn read_text(s: &[u8], at: BitPlace, most: usize) -> TextRead
@@ -75,16 +85,10 @@ pub fn read_text(s: &[u8], at: BitPlace, most: usize) -> TextRead
         n += 1;
     };
     let Step::Next(end) = step else {
-        return TextRead {
-            step: step,
-            text: no_text(),
-        };
+        return stopped_text(step);
     };
     if count == 0 {
-        return TextRead {
-            step: Step::Refused(Fault::BadText, at),
-            text: no_text(),
-        };
+        return stopped_text(Step::Refused(Fault::BadText, at));
     }
     TextRead {
         step: Step::Next(end),

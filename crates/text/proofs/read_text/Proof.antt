@@ -49,15 +49,15 @@ returns : tie.Need-returns Inv-loop μ-loop
 unfolding answer
 returns c = let j = c .before .before .before in
     let t = step-told (j .if1 .step) (c .before .before .match2 .keys2) in
-    text-refused _ _ _ _ _ _ (ended j) (c .no-text .result) (t .0) (t .1) (t .2)
+    rw (c .stopped-text .ensures) (text-refused _ _ _ _ _ _ (ended j) (c .stopped-text .result .text) (t .0) (t .1) (t .2))
 
 returns-2 : tie.Need-returns-2 Inv-loop μ-loop
 unfolding answer
 returns-2 c = let j = c .before .before .before .before .before in
-    text-empty _ _ _ _ _ _ (ended j) (c .before .before .before .step2 .given .0 .0) (c .before .before .before .step2 .given .1) (c .before .if3 .taken)
+    rw (c .stopped-text2 .ensures) (text-empty _ _ _ _ _ _ (ended j) (c .before .before .before .step2 .given .0 .0) (c .before .before .before .step2 .given .1) (c .before .if3 .taken))
 
-cast-t28 : tie.Need-cast-t28 Inv-loop μ-loop
-cast-t28 c = omega (arith, ended (c .before .before .before .before .before) .small)
+cast-t26 : tie.Need-cast-t26 Inv-loop μ-loop
+cast-t26 c = omega (arith, ended (c .before .before .before .before .before) .small)
 
 returns-3 : tie.Need-returns-3 Inv-loop μ-loop
 unfolding answer
@@ -65,4 +65,4 @@ returns-3 c = let j = c .before .before .before .before .before in
     text-got _ _ _ _ _ _ (ended j) (c .before .before .before .step2 .given .0 .0) (omega arith) (c .before .before .before .step2 .given .1) (c .before .if3 .left)
 
 pub read-text-spec : {M : Type 1} → statement M
-read-text-spec = tie.close (tie.spec Inv-loop μ-loop loop-holds (λ c κs. search needs) (λ c. search needs) (λ c. search needs) (λ c κs. search needs) (λ c. search needs) (λ c. search needs) (λ c. search needs) (λ c. search needs) loop-again (λ c. search needs) (λ c. search needs) (λ c κs. search needs) returns (λ c κs. search needs) returns-2 cast-t28 returns-3)
+read-text-spec = tie.close (tie.spec Inv-loop μ-loop loop-holds (λ c κs. search needs) (λ c. search needs) (λ c. search needs) (λ c κs. search needs) (λ c. search needs) (λ c. search needs) (λ c. search needs) (λ c. search needs) loop-again (λ c. search needs) (λ c. search needs) (λ c κs. search needs) returns (λ c κs. search needs) returns-2 cast-t26 returns-3)

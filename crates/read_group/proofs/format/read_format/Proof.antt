@@ -1,6 +1,6 @@
 -- `read_group::format::read_format` meets its contract. Assumes nothing.
 use borrow.Author.Needs.{needs}
-use Rattle.codec.proofs.Compose.{stopping, stopped, shape-stop, here-stop, number-then-stop, flag-then-stop, group-then-stop, number-stop, flag-stop, group-stop, ended, shape-got, number-then, flag-then, group-then, number-got, flag-got, group-got}
+use Rattle.codec.proofs.Compose.{stopping, shape-stop, here-stop, number-then-stop, flag-then-stop, group-then-stop, number-stop, flag-stop, group-stop, ended, shape-got, number-then, flag-then, group-then, number-got, flag-got, group-got, stopped-as}
 use Rattle.header.specs.Table.{format}
 use mathlib.Core.Path.{refl}
 use Rattle.read_group.proofs.format.read_format.Statement.{statement}
@@ -8,20 +8,19 @@ use Rattle.read_group.proofs.format.read_format.Tie as tie
 
 returns : tie.Need-returns
 unfolding format
-returns c = search stopping depth 12
+returns c = stopped-as format _ _ _ _ _ (c .stopped-format .ensures) (search stopping depth 12)
 
 returns-2 : tie.Need-returns-2
 unfolding format
-returns-2 c = search stopping depth 12
+returns-2 c = stopped-as format _ _ _ _ _ (c .stopped-format2 .ensures) (search stopping depth 12)
 
 returns-3 : tie.Need-returns-3
 unfolding format
-returns-3 c = search stopping depth 12
+returns-3 c = stopped-as format _ _ _ _ _ (c .stopped-format3 .ensures) (search stopping depth 12)
 
 returns-4 : tie.Need-returns-4
 unfolding format
-returns-4 c = search (
-  stopped,
+returns-4 c = stopped-as format _ _ _ _ _ (c .stopped-format4 .ensures) (search (
   shape-stop,
   here-stop,
   number-then-stop,
@@ -39,7 +38,7 @@ returns-4 c = search (
   c .before .before .before .before .before .before .before .before .before .before .before .before .before .before .before .before .a .given .1,
   c .before .before .before .before .before .before .before .before .before .before .before .before .before .before .before .before .before .before .read-number .ensures,
 )
-    depth 14 fits 6000
+    depth 14 fits 6000)
 
 returns-5 : tie.Need-returns-5
 unfolding format
