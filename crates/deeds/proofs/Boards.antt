@@ -1,6 +1,6 @@
 -- The calls on the rows, way by way, and what each way makes of the table. Assumes nothing.
 use Prim.Native.Nat.{ℕ, zero, suc, _<_}
-use mathlib.Core.Path.{_≡_, refl, sym, subst, _∙_}
+use mathlib.Core.Path.{_≡_, refl, ap, sym, subst, _∙_}
 use mathlib.Core.Bool.{Bool, true, false}
 use mathlib.Core.List.{List}
 use mathlib.Core.Logic.{inr}
@@ -10,6 +10,7 @@ use lib.Dec.{eqb}
 use borrow.Author.Tests.{ne-eqb}
 use native.Mathlib.Omega.{arith}
 use Rattle.codec.specs.Answer.{pick}
+use Rattle.codec.specs.Codec.{first}
 use Rattle.order.specs.Values.{Address, Key, byKey, byAddress}
 use Rattle.order.specs.Keyed.{find, put, alter}
 use Rattle.order.specs.Requests.{Ask, Mark, settle}
@@ -54,6 +55,10 @@ by-arguments (suc f) d s l = refl
 pub passed : (b : Bool) (f : ℕ) → pick b f 30 ≡ 0 → (b ≡ true) × (f ≡ 0)
 passed true f e = (refl, e)
 passed false f e = absurd (omega arith)
+
+-- an answer y behind what was judged: the look at the table told its form
+pub judged-first : (x j f y : ℕ) (s w : Bool) → x ≡ first j y → j ≡ pick s f 30 → s ≡ w → x ≡ first (pick w f 30) y
+judged-first x j f y s w e h i = e ∙ ap (λ (n : ℕ). first n y) (h ∙ ap (λ (b : Bool). pick b f 30) i)
 
 module _ (d : Deed) (t : Table) (cells : Whole t) (f : ℕ) where
   first-refused : 0 < pick (wellFormed t) f 30 → Acted (named f d) t (pick (wellFormed t) f 30) t

@@ -3,7 +3,7 @@ use borrow.Author.Needs.{needs}
 use borrow.Author.Tests.{eqb-true}
 use Prim.Native.Nat.{ℕ, _<_, _≤_}
 use mathlib.Core.Path.{_≡_, ap, sym, _∙_}
-use mathlib.Core.Bool.{Bool, true}
+use mathlib.Core.Bool.{true}
 use lib.Dec.{leb}
 use Rattle.codec.specs.Answer.{pick}
 use Rattle.codec.specs.Codec.{first}
@@ -11,6 +11,7 @@ use Rattle.header.specs.Table.{addresses}
 use Rattle.table.specs.WellFormed.{wellFormed}
 use Rattle.table.proofs.Whole.{whole}
 use Rattle.arguments.specs.Told.{pendingNo, answerNo}
+use Rattle.deeds.proofs.Boards.{judged-first}
 use Rattle.deeds.proofs.Ways.{post-room, post-acts}
 use Rattle.deeds.proofs.post_row.Statement.{statement}
 use Rattle.deeds.proofs.post_row.Tie as tie
@@ -19,12 +20,9 @@ use Rattle.deeds.proofs.post_row.Tie as tie
 answered : (c : tie.After-refused-if2) → answerNo (c .refused-if2 .result) ≡ first (first (pick (wellFormed (c .before .before .before .before .before .args .t)) (answerNo (c .before .before .before .before .before .args .said)) 30) (pick (c .before .before .before .before .inspect .result .place .held) 22 0)) (pick (leb 32 (c .before .before .before .before .before .args .t .count)) 23 0)
 unfolding pendingNo
 answered c =
-    let i = c .before .before .before .before in
-    let s = i .before in
     c .refused-if2 .ensures .0
-    ∙ ap (λ (n : ℕ). first n (pick (leb 32 (s .args .t .count)) 23 0))
-    (c .before .before .refused-if .ensures .0
-    ∙ ap (λ (n : ℕ). first n (pick (i .inspect .result .place .held) 22 0)) (c .before .before .before .judged .ensures .0 ∙ ap (λ (w : Bool). pick w (answerNo (s .args .said)) 30) (i .inspect .ensures .0)))
+    ∙ ap (λ (n : ℕ). first n (pick (leb 32 (c .before .before .before .before .before .args .t .count)) 23 0))
+    (judged-first _ _ _ _ _ _ (c .before .before .refused-if .ensures .0) (c .before .before .before .judged .ensures .0) (c .before .before .before .before .inspect .ensures .0))
 
 -- where it is done there is room
 room : (c : tie.After-is-done) → c .is-done .result ≡ true → (addresses 15 .check (c .before .before .before .before .before .before .args .to) ≡ 0) × (c .before .before .before .before .before .inspect .result .place .at ≤ c .before .before .before .before .before .before .args .t .count) × (c .before .before .before .before .before .before .args .t .count < 32)

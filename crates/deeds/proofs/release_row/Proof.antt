@@ -1,14 +1,14 @@
 -- `deeds::release_row` meets its contract. Assumes nothing.
 use borrow.Author.Needs.{needs}
 use borrow.Author.Tests.{eqb-true}
-use Prim.Native.Nat.{ℕ}
-use mathlib.Core.Path.{_≡_, ap, sym, _∙_}
-use mathlib.Core.Bool.{Bool, not}
+use mathlib.Core.Path.{_≡_, sym, _∙_}
+use mathlib.Core.Bool.{not}
 use Rattle.codec.specs.Answer.{pick}
 use Rattle.codec.specs.Codec.{first}
 use Rattle.table.specs.WellFormed.{wellFormed}
 use Rattle.table.proofs.Whole.{whole}
 use Rattle.arguments.specs.Told.{pendingNo, answerNo}
+use Rattle.deeds.proofs.Boards.{judged-first}
 use Rattle.deeds.proofs.Ways.{release-room, release-acts}
 use Rattle.deeds.proofs.release_row.Statement.{statement}
 use Rattle.deeds.proofs.release_row.Tie as tie
@@ -16,9 +16,7 @@ use Rattle.deeds.proofs.release_row.Tie as tie
 -- the answer: the table's form, the arguments, then the row
 answered : (c : tie.After-refused-if) → answerNo (c .refused-if .result) ≡ first (pick (wellFormed (c .before .before .before .args .t)) (answerNo (c .before .before .before .args .said)) 30) (pick (not (c .before .before .inspect .result .place .held)) 26 0)
 unfolding pendingNo
-answered c =
-    c .refused-if .ensures .0
-    ∙ ap (λ (n : ℕ). first n (pick (not (c .before .before .inspect .result .place .held)) 26 0)) (c .before .judged .ensures .0 ∙ ap (λ (w : Bool). pick w (answerNo (c .before .before .before .args .said)) 30) (c .before .before .inspect .ensures .0))
+answered c = judged-first _ _ _ _ _ _ (c .refused-if .ensures .0) (c .before .judged .ensures .0) (c .before .before .inspect .ensures .0)
 
 remove-row-requires : tie.Need-remove-row-requires
 remove-row-requires c κs e =

@@ -1,9 +1,9 @@
 -- `deeds::settle_row` meets its contract. Assumes nothing.
 use borrow.Author.Needs.{needs}
 use borrow.Author.Tests.{eqb-true}
-use Prim.Native.Nat.{ℕ, _<_, _≤_}
-use mathlib.Core.Path.{_≡_, ap, sym, _∙_}
-use mathlib.Core.Bool.{Bool, true, not}
+use Prim.Native.Nat.{_<_, _≤_}
+use mathlib.Core.Path.{_≡_, sym, _∙_}
+use mathlib.Core.Bool.{true, not}
 use native.Mathlib.Omega.{arith}
 use Rattle.codec.specs.Answer.{pick}
 use Rattle.codec.specs.Codec.{first}
@@ -12,6 +12,7 @@ use Rattle.table.specs.WellFormed.{wellFormed}
 use Rattle.table.proofs.Parts.{row-at}
 use Rattle.table.proofs.Whole.{whole}
 use Rattle.arguments.specs.Told.{pendingNo, answerNo}
+use Rattle.deeds.proofs.Boards.{judged-first}
 use Rattle.deeds.proofs.Cells.{row-whole}
 use Rattle.deeds.proofs.Receipts.{receipt-there, receipt-early, receipt-acts}
 use Rattle.deeds.proofs.settle_row.Statement.{statement}
@@ -20,9 +21,7 @@ use Rattle.deeds.proofs.settle_row.Tie as tie
 -- the answer before the row is asked: the table's form, the arguments, then whether the row is there
 answered : (c : tie.After-refused-if) → answerNo (c .refused-if .result) ≡ first (pick (wellFormed (c .before .before .before .args .t)) (answerNo (c .before .before .before .args .said)) 30) (pick (not (c .before .before .inspect .result .place .held)) 26 0)
 unfolding pendingNo
-answered c =
-    c .refused-if .ensures .0
-    ∙ ap (λ (n : ℕ). first n (pick (not (c .before .before .inspect .result .place .held)) 26 0)) (c .before .judged .ensures .0 ∙ ap (λ (w : Bool). pick w (answerNo (c .before .before .before .args .said)) 30) (c .before .before .inspect .ensures .0))
+answered c = judged-first _ _ _ _ _ _ (c .refused-if .ensures .0) (c .before .judged .ensures .0) (c .before .before .inspect .ensures .0)
 
 -- what the code knows where it goes on
 none-yet : (c : tie.Then1) → answerNo (c .before .before .refused-if .result) ≡ 0
