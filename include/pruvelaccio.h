@@ -397,8 +397,8 @@ static inline pruvelaccio_answer pruvelaccio_read(const uint8_t *datagram, size_
 }
 
 /*
- * The part of the datagram that follows the header. It refuses nothing: a datagram that reading refuses has
- * no user data, so the length that is stored is 0.
+ * What lies behind the header, as a part of the datagram itself. It refuses nothing: a datagram that
+ * reading refuses has no user data, so the length that is stored is 0.
  */
 static inline const uint8_t *pruvelaccio_user_data(const uint8_t *datagram, size_t length,
                                                    size_t *data_length)
@@ -457,8 +457,9 @@ static inline pruvelaccio_answer pruvelaccio_release(pruvelaccio_table *table, c
 }
 
 /*
- * Writes a row of the listing to the first octets of the output: row 0 counts the rows, rows 1 to n follow in
- * key order, a later number writes nothing. No other octet of the output changes.
+ * Writes a row of the listing to the first octets of the output: number 0 is the line that counts the rows,
+ * number k the k-th row by key; past the last row there is nothing to write. No other octet of the output
+ * changes.
  */
 static inline pruvelaccio_answer pruvelaccio_list_row(const pruvelaccio_table *table, uint32_t number,
                                                       uint8_t *out, size_t room, size_t *written)

@@ -2,9 +2,9 @@
 use mathlib.Core.Path.{_≡_, _∙_}
 use Rattle.table.specs.declared.Table.{Table}
 use Rattle.order.specs.Calls.{Call}
-use Rattle.deeds.specs.Acts.{Acted}
+use Rattle.transitions.specs.Acts.{Acted}
 use Rattle.arguments.specs.Told.{answerNo, answerPlace}
-use Rattle.deeds.specs.declared.TableAfter.{TableAfter}
+use Rattle.transitions.specs.declared.TableAfter.{TableAfter}
 use Rattle.answers.specs.declared.TableAnswer.{TableAnswer}
 
 -- what holds of a call's own answer holds of its numbers

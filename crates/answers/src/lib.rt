@@ -9,13 +9,13 @@ ghost use Rattle.answers.specs.Numbers.{sized, refusedBy, readNumbers, w
 use arguments::Answer;
 use arguments::PendingFault;
 use codec::Fault;
-use deeds::TableAfter;
 use header::Header;
 use listing::Listed;
 use listing::ListingFault;
 use reader::HeaderRead;
 use reader::Outcome;
 use table::Table;
+use transitions::TableAfter;
 use writer::Written;
 
 // A reading: number 0, the header's octets and the record; or a refusal's number and place, length 0

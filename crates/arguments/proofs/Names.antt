@@ -21,15 +21,16 @@ use Rattle.writer.proofs.Parts.{front-legal, blocks-legal}
 use Rattle.writer.proofs.Valid.{Valid, valid-parts}
 use Rattle.order.specs.Values.{Address, Key, keyOf, keyFault}
 use Rattle.order.specs.Requests.{askOf}
-use Rattle.order.specs.Calls.{Deed, key, post, receipt, release}
+use Rattle.calls.specs.Operations.{key, post, receipt, release}
+use Rattle.order.specs.Calls.{Operation}
 use Rattle.order.specs.declared.Key.{Key as DeclaredKey}
 use Rattle.arguments.specs.Arguments.{Arguments, posting, receiving, releasing, hasBlock, blockAt, asks, someRecipient, oneRecipient, firstRecipient, postingKey, receiptKey, postingFault, receiptFault, named, callOf, legalKey, message, answerer}
 use Rattle.arguments.proofs.Legal.{front-originator, front-recipient, block-origin, block-response, block-legal, originator-there, origin-there}
 
 -- a call that names something is not refused
-pub named-deed : (f : ℕ) (d e : Deed) → named f d ≡ inr e → (f ≡ 0) × (d ≡ e)
-named-deed zero d e q = (refl, cc)
-named-deed (suc f) d e q = let z : _≡_ {A = ℕ} 0 1 = cc in absurd (omega arith)
+pub named-operation : (f : ℕ) (d e : Operation) → named f d ≡ inr e → (f ≡ 0) × (d ≡ e)
+named-operation zero d e q = (refl, cc)
+named-operation (suc f) d e q = let z : _≡_ {A = ℕ} 0 1 = cc in absurd (omega arith)
 
 fine : (b : Bool) (f : ℕ) → 0 < f → pick b 0 f ≡ 0 → b ≡ true
 fine b f l e = fine-legal b 0 f l e .0
@@ -127,28 +128,28 @@ legal-is k a s = rw (a, s)
 all-three : {A : Type 0} (a b c : Bool) (x y : A) → a ≡ true → b ≡ true → c ≡ true → cond (a && b && c) x y ≡ x
 all-three a b c x y p q r = rw (p, q, r)
 
-pub message-is : (x : Arguments) (d : Deed) → callOf x ≡ inr d → message x ≡ some (key d)
+pub message-is : (x : Arguments) (d : Operation) → callOf x ≡ inr d → message x ≡ some (key d)
 unfolding callOf message
 message-is (posting h n count) d e =
-    let f = named-deed (postingFault h n count) _ d e in
+    let f = named-operation (postingFault h n count) _ d e in
     let p = posts h n count (f .0) in
-    all-three _ _ _ _ _ (p .block-there) (p .from-there) (p .origin) ∙ legal-is (postingKey h (blockAt h n)) (p .from-legal) (p .origin-legal) ∙ ap (λ (y : Deed). some (key y)) (f .1)
+    all-three _ _ _ _ _ (p .block-there) (p .from-there) (p .origin) ∙ legal-is (postingKey h (blockAt h n)) (p .from-legal) (p .origin-legal) ∙ ap (λ (y : Operation). some (key y)) (f .1)
 message-is (receiving h n count) d e =
-    let f = named-deed (receiptFault h n count) _ d e in
+    let f = named-operation (receiptFault h n count) _ d e in
     let p = answers h n count (f .0) in
-    all-three _ _ _ _ _ (p .block-there) (p .one) (p .response) ∙ legal-is (receiptKey h (blockAt h n)) (p .to-legal) (p .stamp-legal) ∙ ap (λ (y : Deed). some (key y)) (f .1)
+    all-three _ _ _ _ _ (p .block-there) (p .one) (p .response) ∙ legal-is (receiptKey h (blockAt h n)) (p .to-legal) (p .stamp-legal) ∙ ap (λ (y : Operation). some (key y)) (f .1)
 message-is (releasing k) d e =
-    let f = named-deed (keyFault k) (release (keyOf k)) d e in
-    rw (eq-eqb (keyFault k) 0 (f .0)) (ap (λ (y : Deed). some (key y)) (f .1))
+    let f = named-operation (keyFault k) (release (keyOf k)) d e in
+    rw (eq-eqb (keyFault k) 0 (f .0)) (ap (λ (y : Operation). some (key y)) (f .1))
 
 -- the answerer of a receipt
-abbrev answering : Deed → Option Address
-answering (post k a rs) = none
-answering (receipt k w c) = some w
+abbrev answering : Operation → Option Address
+answering (post k r) = none
+answering (receipt k p) = some (p .0)
 answering (release k) = none
 
-pub answerer-is : (h : Header) (n count : ℕ) (k : Key) (w : Address) (c : ℕ) → callOf (receiving h n count) ≡ inr (receipt k w c) → answerer h ≡ some w
+pub answerer-is : (h : Header) (n count : ℕ) (k : Key) (w : Address) (c : ℕ) → callOf (receiving h n count) ≡ inr (receipt k (w, c)) → answerer h ≡ some w
 unfolding callOf answerer
 answerer-is h n count k w c e =
-    let f = named-deed (receiptFault h n count) _ (receipt k w c) e in
+    let f = named-operation (receiptFault h n count) _ (receipt k (w, c)) e in
     rw (answers h n count (f .0) .from-there) (ap answering (f .1))

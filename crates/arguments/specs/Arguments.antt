@@ -16,7 +16,8 @@ use Rattle.header.specs.declared.Header.{Header}
 use Rattle.writer.specs.Writing.{faultOf}
 use Rattle.order.specs.Values.{Address, addressOf, Key, keyOf, keyFault}
 use Rattle.order.specs.Requests.{anyOf, askOf}
-use Rattle.order.specs.Calls.{Deed, post, receipt, release, Call}
+use Rattle.calls.specs.Operations.{post, receipt, release}
+use Rattle.order.specs.Calls.{Operation, Call, make}
 use Rattle.order.specs.declared.Key.{Key as DeclaredKey}
 
 -- a call's arguments: a record, a block number and the count of user data; or a key
@@ -78,17 +79,17 @@ receiptFault h n count =
 
 -- ---- what the call names, where it is not refused
 
-abbrev pub named : ℕ → Deed → Call
+abbrev pub named : ℕ → Operation → Call
 named zero d = inr d
 named (suc f) d = inl (suc f)
 
 unfoldable pub callOf : Arguments → Call
 callOf (posting h n count) =
     named (postingFault h n count)
-    (post (keyOf (postingKey h (blockAt h n))) (askOf (blockAt h n .times .requests .requests)) (map addressOf (recipientsOf h)))
+    (post (keyOf (postingKey h (blockAt h n))) (make (askOf (blockAt h n .times .requests .requests)) (map addressOf (recipientsOf h))))
 callOf (receiving h n count) =
     named (receiptFault h n count)
-    (receipt (keyOf (receiptKey h (blockAt h n))) (addressOf (h .front .originator .address)) (blockAt h n .response .response .compliance .code))
+    (receipt (keyOf (receiptKey h (blockAt h n))) (addressOf (h .front .originator .address), blockAt h n .response .response .compliance .code))
 callOf (releasing k) = named (keyFault k) (release (keyOf k))
 
 -- ---- a call's message: the key that it names, if it is a legal one (a call whose block, group or part is missing names none)

@@ -18,7 +18,7 @@ pendingNo KeyHeld = 22
 pendingNo TableFull = 23
 -- no G8
 pendingNo NoResponse = 24
--- no originator, or not exactly one entry in G2
+-- G1 is absent, or G2 has no entry or several
 pendingNo NotOneRecipient = 25
 -- no row has the key
 pendingNo NoRow = 26

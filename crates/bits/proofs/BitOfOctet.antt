@@ -1,5 +1,5 @@
--- Document 01's own sentence on bits, of the definition that every contract cites: bit k of the datagram is bit k mod 8, the one of weight
--- 2 ^ (k mod 8), of octet k div 8. It holds of every list of octets and every k within it. Assumes nothing.
+-- Where the bits of a list of octets lie, of the definition that every contract cites: the k-th is the one of weight 2 ^ (k mod 8) in octet k div 8, as document 01 has
+-- it. It holds of every list of octets and every k within it. Assumes nothing.
 use mathlib.Core.Path.{_≡_, sym, ap, _∙_}
 use mathlib.Core.Bool.{Bool, false}
 use mathlib.Core.List.{List, _∷_}

@@ -7,13 +7,8 @@ use native.Mathlib.Omega.{arith}
 use lib.ListN.{length, take, drop, getD, set, length-append}
 use lib.Seq.{take-at, drop-at, split-at, set-split, length-take-le}
 use lib.Pow.{shr-shr}
-use Rattle.bits.specs.Bits.{lowBits, bitsOf}
+use Rattle.bits.specs.Bits.{lowBits, bitsOf, AllOctets}
 use Rattle.bits.proofs.NumberBits.{length-lowBits, lowBits-add, lowBits-same}
-
--- each element is an octet
-abbrev pub AllOctets : List ℕ → Type 0
-AllOctets [] = Unit {0}
-AllOctets (x ∷ xs) = (x < 256) × AllOctets xs
 
 -- octets, by their bounds
 pub octets-of : (s : List ℕ) → ((i : ℕ) → i < length s → getD s i 0 < 256) → AllOctets s

@@ -6,9 +6,9 @@ use mathlib.Core.List.{List, [], _∷_, _++_}
 use native.Mathlib.Omega.{arith}
 use lib.ListN.{length, take, drop, length-drop, take-append-drop, drop-of-length-le}
 use lib.Seq.{drop-drop, drop-at, length-take-le}
-use Rattle.bits.specs.Bits.{lowBits, value, bitsOf, splice, octets}
+use Rattle.bits.specs.Bits.{lowBits, value, bitsOf, splice, octets, AllOctets}
 use Rattle.bits.proofs.NumberBits.{length-lowBits, lowBits-value-at, value-lt}
-use Rattle.bits.proofs.OctetBits.{AllOctets, bitsOf-append, bitsOf-same}
+use Rattle.bits.proofs.OctetBits.{bitsOf-append, bitsOf-same}
 
 pub length-octets : (n : ℕ) (bs : List Bool) → length (octets n bs) ≡ n
 unfolding octets

@@ -1,5 +1,5 @@
 -- Bits of octets, low bit first, the number that bits are, a field of bits, and a splice.
-use Prim.Native.Nat.{ℕ, zero, suc, _+_, _*_, _/_, _%_, _^_}
+use Prim.Native.Nat.{ℕ, zero, suc, _+_, _*_, _/_, _%_, _^_, _<_}
 use mathlib.Core.Bool.{Bool, true, false}
 use mathlib.Core.List.{List, [], _∷_, _++_}
 use lib.ListN.{length, take, drop}
@@ -28,6 +28,11 @@ value (b ∷ bs) = weight b + 2 * value bs
 unfoldable pub bitsOf : List ℕ → List Bool
 bitsOf [] = []
 bitsOf (x ∷ xs) = lowBits 8 x ++ bitsOf xs
+
+-- every number is an octet: so is each of a slice of `u8`
+abbrev pub AllOctets : List ℕ → Type 0
+AllOctets [] = Unit {0}
+AllOctets (x ∷ xs) = (x < 256) × AllOctets xs
 
 -- the number in the w bits from place `at` on
 unfoldable pub field : List ℕ → ℕ → ℕ → ℕ

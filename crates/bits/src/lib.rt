@@ -10,7 +10,8 @@ ghost use Rattle.bits.specs.Units.{wholeOctets, datagramLimit};
 // Document 01's place: a bit of a datagram, counted from its first bit, which is 0.
 pub struct BitPlace(pub usize);
 
-// Document 01's size: a count of octets. A place never stands where a size belongs.
+// Document 01's size: a count of octets. It is another type than a place, so that neither can be
+// handed to a function that asks for the other.
 pub struct OctetSize(pub usize);
 
 // The one conversion from a place to a size: the whole octets that hold the bits before the place.

@@ -32,20 +32,20 @@ characters-agrees n = exact-agrees (λ cs. refl)
 -- d may look at x, but sets the unused cells to 0 in one way whatever x is
 pub thenBy-agrees : {A B : Type 0} {c : Codec A} {d : A → Codec B} {S : A → A → Type 0} {T : B → B → Type 0} → Agrees c S → ((x : A) → Agrees (d x) T) → ((x z : A) (y : B) → d x .norm y ≡ d z .norm y) → Agrees (c thenBy d) (λ p q. S (p .0) (q .0) and T (p .1) (q .1))
 unfolding _thenBy_
-thenBy-agrees ac ad n =
+thenBy-agrees first then n =
     record {
-      told = λ p q e. (ac .told (p .0) (q .0) (ap (λ r. r .0) e), ad (p .0) .told (p .1) (q .1) (ap (λ r. r .1) e ∙ n (q .0) (p .0) (q .1)));
-      made = λ p q s. λ i. (ac .made (p .0) (q .0) (s .0) i, (ad (p .0) .made (p .1) (q .1) (s .1) ∙ n (p .0) (q .0) (q .1)) i);
+      told = λ p q e. (first .told (p .0) (q .0) (ap (λ r. r .0) e), then (p .0) .told (p .1) (q .1) (ap (λ r. r .1) e ∙ n (q .0) (p .0) (q .1)));
+      made = λ p q s. λ i. (first .made (p .0) (q .0) (s .0) i, (then (p .0) .made (p .1) (q .1) (s .1) ∙ n (p .0) (q .0) (q .1)) i);
     }
 
 pub and-agrees : {A B : Type 0} {c : Codec A} {d : Codec B} {S : A → A → Type 0} {T : B → B → Type 0} → Agrees c S → Agrees d T → Agrees (c & d) (λ p q. S (p .0) (q .0) and T (p .1) (q .1))
-and-agrees ac ad = thenBy-agrees ac (λ x. ad) (λ x z y. refl)
+and-agrees first then = thenBy-agrees first (λ x. then) (λ x z y. refl)
 
 -- a presence bit, of whatever kind, and what is present
-module _ {A : Type 0} (x : A) (bit : Codec Bool) (bn : (b : Bool) → bit .norm b ≡ b) {c : Codec A} {S : A → A → Type 0} (ac : Agrees c S) where
+module _ {A : Type 0} (x : A) (bit : Codec Bool) (bn : (b : Bool) → bit .norm b ≡ b) {c : Codec A} {S : A → A → Type 0} (inner : Agrees c S) where
   contents-made : (a b : Bool) (y z : A) → a ≡ b → (a ≡ true → S y z) → present x c a .norm y ≡ present x c b .norm z
   unfolding present nothing
-  contents-made true b y z f s = rw (← f) (ac .made y z (s refl))
+  contents-made true b y z f s = rw (← f) (inner .made y z (s refl))
   contents-made false b y z f s = rw (← f)
 
   pub present-agrees : Agrees (bit thenBy present x c) (sameOptional S)
@@ -57,42 +57,42 @@ module _ {A : Type 0} (x : A) (bit : Codec Bool) (bn : (b : Bool) → bit .norm 
               f,
               λ t.
                   let k : present x c (p .0) .norm (p .1) ≡ present x c (q .0) .norm (q .1) = ap (λ r. r .1) e in
-                  ac .told (p .1) (q .1) (rw (← f, t) at k),
+                  inner .told (p .1) (q .1) (rw (← f, t) at k),
             );
         made = λ p q s. λ i. ((bn (p .0) ∙ s .0 ∙ sym (bn (q .0))) i, contents-made (p .0) (q .0) (p .1) (q .1) (s .0) (s .1) i);
       }
 
 pub optional-agrees : {A : Type 0} (x : A) {c : Codec A} {S : A → A → Type 0} → Agrees c S → Agrees (optional x c) (sameOptional S)
 unfolding flag
-optional-agrees x ac = present-agrees x flag (λ b. refl) ac
+optional-agrees x inner = present-agrees x flag (λ b. refl) inner
 
 pub shaped-agrees : {A B : Type 0} (to : A → B) (from : B → A) {c : Codec A} {S : A → A → Type 0} → Agrees c S → ((x : A) → from (to x) ≡ x) → Agrees (shaped to from c) (λ x y. S (from x) (from y))
 unfolding viewed
-shaped-agrees to from {c} ac back =
+shaped-agrees to from {c} inner back =
     record {
-      told = λ x y e. ac .told (from x) (from y) (sym (back (c .norm (from x))) ∙ ap from e ∙ back (c .norm (from y)));
-      made = λ x y s. ap to (ac .made (from x) (from y) s);
+      told = λ x y e. inner .told (from x) (from y) (sym (back (c .norm (from x))) ∙ ap from e ∙ back (c .norm (from y)));
+      made = λ x y s. ap to (inner .made (from x) (from y) s);
     }
 
 pub tested-agrees : {A : Type 0} (test : A → Bool) (fault : ℕ) {c : Codec A} {S : A → A → Type 0} → Agrees c S → Agrees (tested test fault c) S
 unfolding tested
-tested-agrees test fault ac = record { told = ac .told; made = ac .made }
+tested-agrees test fault inner = record { told = inner .told; made = inner .made }
 
 pub closedBy-agrees : {A : Type 0} {c : Codec A} {S : A → A → Type 0} (fault : ℕ) → Agrees c S → Agrees (c closedBy fault) S
 unfolding _closedBy_ viewed
-closedBy-agrees fault ac = record { told = ac .told; made = ac .made }
+closedBy-agrees fault inner = record { told = inner .told; made = inner .made }
 
 -- lists: entry by entry
-module _ {A : Type 0} (x : A) {c : Codec A} {S : A → A → Type 0} (ac : Agrees c S) where
+module _ {A : Type 0} (x : A) {c : Codec A} {S : A → A → Type 0} (inner : Agrees c S) where
   entries-told : (xs ys : List A) → map (c .norm) xs ≡ map (c .norm) ys → Forall₂ S xs ys
   entries-told [] [] e = Forall₂·nil
   entries-told [] (y ∷ ys) e = let z : _≡_ {A = ℕ} 0 1 = cc in absurd (omega arith)
   entries-told (x ∷ xs) [] e = let z : _≡_ {A = ℕ} 0 1 = cc in absurd (omega arith)
-  entries-told (x ∷ xs) (y ∷ ys) e = Forall₂·cons (ac .told x y (cc)) (entries-told xs ys (cc))
+  entries-told (x ∷ xs) (y ∷ ys) e = Forall₂·cons (inner .told x y (cc)) (entries-told xs ys (cc))
 
   entries-made : {xs ys : List A} → Forall₂ S xs ys → map (c .norm) xs ≡ map (c .norm) ys
   entries-made Forall₂·nil = refl
-  entries-made (Forall₂·cons {a = x} {b = y} s r) = λ i. ac .made x y s i ∷ entries-made r i
+  entries-made (Forall₂·cons {a = x} {b = y} s r) = λ i. inner .made x y s i ∷ entries-made r i
 
   pub listed-agrees : (n : ℕ) → Agrees (listed x c n) (Forall₂ S)
   unfolding listed viewed
@@ -100,7 +100,7 @@ module _ {A : Type 0} (x : A) {c : Codec A} {S : A → A → Type 0} (ac : Agree
   listed-agrees (suc n) = record { told = entries-told; made = λ xs ys. entries-made }
 
 -- an array, of a list whose normal form keeps its length
-module _ {A : Type 0} (a : A) (room most fault : ℕ) {c : Codec (List A)} {S : List A → List A → Type 0} (ac : Agrees c S) (keeps : (xs : List A) → length (c .norm xs) ≡ length xs) where
+module _ {A : Type 0} (a : A) (room most fault : ℕ) {c : Codec (List A)} {S : List A → List A → Type 0} (inner : Agrees c S) (keeps : (xs : List A) → length (c .norm xs) ≡ length xs) where
   used-length : (l : List A) (k : ℕ) → length (c .norm (take k l)) ≡ min k (length l)
   used-length l k = keeps (take k l) ∙ length-take k l
 
@@ -117,6 +117,6 @@ module _ {A : Type 0} (a : A) (room most fault : ℕ) {c : Codec (List A)} {S : 
             let l : length (x .0) ≡ length (y .0) = sym (clean-length (x .0) (x .1)) ∙ ap length k ∙ clean-length (y .0) (y .1) in
             let u : length (c .norm (take (y .1) (y .0))) ≡ length (c .norm (take (x .1) (x .0))) = rw (used-length (x .0) (x .1), used-length (y .0) (y .1), l, n) in
             let v = ap (take (length (c .norm (take (x .1) (x .0))))) k in
-            (l, (n, ac .told _ _ (sym (take-append-seam _ _) ∙ v ∙ take-at _ _ _ u)));
-        made = λ x y s. λ i. (ac .made (take (x .1) (x .0)) (take (y .1) (y .0)) (s .1 .1) i ++ replicate (s .0 i - s .1 .0 i) a, s .1 .0 i);
+            (l, (n, inner .told _ _ (sym (take-append-seam _ _) ∙ v ∙ take-at _ _ _ u)));
+        made = λ x y s. λ i. (inner .made (take (x .1) (x .0)) (take (y .1) (y .0)) (s .1 .1) i ++ replicate (s .0 i - s .1 .0 i) a, s .1 .0 i);
       }

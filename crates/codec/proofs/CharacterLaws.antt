@@ -13,7 +13,7 @@ use Rattle.bits.proofs.NumberBits.{length-lowBits}
 use Rattle.codec.specs.Answer.{Answer, got, refused, next, pick}
 use Rattle.codec.specs.Codec.{number, tested}
 use Rattle.codec.specs.Characters.{character, characters, readCharacters, writeCharacters, legalCharacters}
-use Rattle.codec.specs.Lists.{some}
+use Rattle.codec.specs.Lists.{nonEmpty}
 use Rattle.codec.proofs.Lawful.{Accepted, Lawful, behind, never}
 use Rattle.codec.proofs.Fields.{number-lawful, number-most, passed, and-left, and-right}
 use Rattle.codec.proofs.Sequences.{first-zero}
@@ -106,9 +106,9 @@ characters-lawful n =
     }
 
 -- a text's characters: one at least
-pub text-lawful : (n : ℕ) → Lawful (tested some 4 (characters n))
+pub text-lawful : (n : ℕ) → Lawful (tested nonEmpty 4 (characters n))
 unfolding characters
-text-lawful n = tested-lawful some 4 (lit< tt) (characters n) (characters-lawful n) (λ cs. refl)
+text-lawful n = tested-lawful nonEmpty 4 (lit< tt) (characters n) (characters-lawful n) (λ cs. refl)
 
 legal-length : (n : ℕ) (cs : List ℕ) → legalCharacters n cs ≡ true → length cs ≤ n
 unfolding legalCharacters
@@ -117,6 +117,6 @@ legal-length zero (c ∷ cs) g = absurd (omega (arith, ap weight g))
 legal-length (suc n) (c ∷ cs) g = omega (arith, legal-length n cs (and-right (leb c 126) (legalCharacters n cs) g))
 
 -- a legal text has at most n characters
-pub text-length : (n : ℕ) (cs : List ℕ) → tested some 4 (characters n) .check cs ≡ 0 → length cs ≤ n
+pub text-length : (n : ℕ) (cs : List ℕ) → tested nonEmpty 4 (characters n) .check cs ≡ 0 → length cs ≤ n
 unfolding tested characters
-text-length n cs l = legal-length n cs (passed (legalCharacters n cs) 4 (lit< tt) (first-zero (pick (legalCharacters n cs) 0 4) (pick (some cs) 0 4) l .0))
+text-length n cs l = legal-length n cs (passed (legalCharacters n cs) 4 (lit< tt) (first-zero (pick (legalCharacters n cs) 0 4) (pick (nonEmpty cs) 0 4) l .0))

@@ -10,7 +10,7 @@ use borrow.Author.Tests.{eqb-true, leb-true, eq-eqb, le-leb}
 use native.Mathlib.Numerals.{add-one}
 use native.Mathlib.Omega.{arith}
 use Rattle.codec.specs.Codec.{Codec, flag, nothing, present, tested, viewed, _thenBy_}
-use Rattle.codec.specs.Lists.{some, recurs, listed, cells}
+use Rattle.codec.specs.Lists.{nonEmpty, recurs, listed, cells}
 use Rattle.codec.proofs.Fields.{and-left, and-right}
 use Rattle.codec.proofs.Sequences.{first-zero}
 use Rattle.codec.proofs.ListLaws.{fine-legal}
@@ -23,7 +23,7 @@ sizes c (y ∷ ys) = 1 + c .size y + sizes c ys
 
 abbrev written : {A : Type 0} → Codec A → List A → List Bool
 written c [] = []
-written c (y ∷ ys) = (some ys ∷ c .write y) ++ written c ys
+written c (y ∷ ys) = (nonEmpty ys ∷ c .write y) ++ written c ys
 
 no-fault : {A : Type 0} (c : Codec A) (xs : List A) (i : ℕ) (d : A) → i < length xs → faults c xs ≡ 0 → c .check (getD xs i d) ≡ 0
 no-fault c [] i d h e = absurd (omega arith)

@@ -10,7 +10,7 @@ use borrow.Author.Tests.{eqb-true, eq-eqb, leb-true, le-leb}
 use native.Mathlib.Omega.{arith}
 use Rattle.codec.specs.Answer.{pick}
 use Rattle.codec.specs.Codec.{Codec, flag, nothing, first, _thenBy_, _&_, present, viewed, tested}
-use Rattle.codec.specs.Lists.{some, recurs, joined, apart, entries, listed, cells}
+use Rattle.codec.specs.Lists.{nonEmpty, recurs, joined, apart, entries, listed, cells}
 use Rattle.codec.proofs.Lawful.{Lawful}
 use Rattle.codec.proofs.Fields.{flag-lawful, nothing-lawful, and-left, and-right}
 use Rattle.codec.proofs.Sequences.{thenBy-lawful, and-lawful, present-lawful, first-zero}
@@ -29,7 +29,7 @@ pub length-replicate : {A : Type 0} (n : ℕ) (x : A) → length (replicate n x)
 length-replicate zero x = refl
 length-replicate (suc n) x = ap suc (length-replicate n x)
 
-some-map : {A B : Type 0} (f : A → B) (l : List A) → some (map f l) ≡ some l
+some-map : {A B : Type 0} (f : A → B) (l : List A) → nonEmpty (map f l) ≡ nonEmpty l
 some-map f [] = refl
 some-map f (x ∷ l) = refl
 
@@ -46,7 +46,7 @@ recurs-norm (suc n) b = refl
 module _ {A : Type 0} (x : A) (c : Codec A) (lc : Lawful c) where
   -- an entry, and the others where its recurrence bit says so
   module _ (bit : Codec Bool) (rest : Codec (List A)) (lb : Lawful bit) (bn : (b : Bool) → bit .norm b ≡ b) (lr : Lawful rest)
-      (others : bit .check true ≡ 0 → (ys : List A) → rest .check ys ≡ 0 → some ys ≡ true)
+      (others : bit .check true ≡ 0 → (ys : List A) → rest .check ys ≡ 0 → nonEmpty ys ≡ true)
       (mapped : bit .check true ≡ 0 → (ys : List A) → rest .norm ys ≡ map (c .norm) ys)
       (judged : (ys : List A) → rest .check (map (c .norm) ys) ≡ rest .check ys) where
     abbrev parts : Codec ((Bool × A) × List A)
@@ -56,7 +56,7 @@ module _ {A : Type 0} (x : A) (c : Codec A) (lc : Lawful c) where
     unfolding _thenBy_ present nothing
     entries-back z l n = go (z .0 .0) (z .0 .1) (z .1) l n
       where
-        go : (b : Bool) (y : A) (ys : List A) → parts .check ((b, y), ys) ≡ 0 → parts .norm ((b, y), ys) ≡ ((b, y), ys) → _≡_ {A = (Bool × A) × List A} ((some ys, y), ys) ((b, y), ys)
+        go : (b : Bool) (y : A) (ys : List A) → parts .check ((b, y), ys) ≡ 0 → parts .norm ((b, y), ys) ≡ ((b, y), ys) → _≡_ {A = (Bool × A) × List A} ((nonEmpty ys, y), ys) ((b, y), ys)
         go true y ys l n =
             let m = first-zero (first (bit .check true) (c .check y)) (rest .check ys) l in
             let k = first-zero (bit .check true) (c .check y) (m .0) in
@@ -65,7 +65,7 @@ module _ {A : Type 0} (x : A) (c : Codec A) (lc : Lawful c) where
             let e : [] ≡ ys = ap (λ (w : (Bool × A) × List A). w .1) n in
             rw (← e)
 
-    entries-clean : (ys : List A) → pick (some ys) (parts .check (apart x ys)) 5 ≡ 0 → map (c .norm) ys ≡ joined (parts .norm (apart x ys))
+    entries-clean : (ys : List A) → pick (nonEmpty ys) (parts .check (apart x ys)) 5 ≡ 0 → map (c .norm) ys ≡ joined (parts .norm (apart x ys))
     unfolding _thenBy_ present nothing
     entries-clean [] l = absurd (omega arith)
     entries-clean (y ∷ []) l = refl
@@ -74,7 +74,7 @@ module _ {A : Type 0} (x : A) (c : Codec A) (lc : Lawful c) where
         let k = first-zero (bit .check true) (c .check y) (m .0) in
         ap (λ (l : List A). c .norm y ∷ l) (sym (mapped (k .0) (z ∷ ys)))
 
-    entries-judged : (ys : List A) → pick (some (map (c .norm) ys)) (parts .check (apart x (map (c .norm) ys))) 5 ≡ pick (some ys) (parts .check (apart x ys)) 5
+    entries-judged : (ys : List A) → pick (nonEmpty (map (c .norm) ys)) (parts .check (apart x (map (c .norm) ys))) 5 ≡ pick (nonEmpty ys) (parts .check (apart x ys)) 5
     unfolding _thenBy_ present nothing
     entries-judged [] = refl
     entries-judged (y ∷ []) = rw (lc .judged y)
@@ -83,18 +83,18 @@ module _ {A : Type 0} (x : A) (c : Codec A) (lc : Lawful c) where
     entries-lawful : Lawful (entries x c bit rest)
     unfolding _thenBy_
     entries-lawful =
-        viewed-lawful joined (apart x) (map (c .norm)) some 5 parts
+        viewed-lawful joined (apart x) (map (c .norm)) nonEmpty 5 parts
         (thenBy-lawful (bit & c) (λ e. present [] rest (e .0)) (and-lawful lb lc) (λ e. present-lawful [] lr (e .0)) (λ e l. same-bit e))
         entries-back
         (λ z l. refl)
-        (λ ys l. fine-legal (some ys) _ 5 (lit< tt) l .1)
+        (λ ys l. fine-legal (nonEmpty ys) _ 5 (lit< tt) l .1)
         entries-clean
         entries-judged
       where
         same-bit : (e : Bool × A) → present [] rest ((bit & c) .norm e .0) ≡ present [] rest (e .0)
         same-bit e = ap (present [] rest) (bn (e .0))
 
-  listed-some : (n : ℕ) (ys : List A) → listed x c n .check ys ≡ 0 → some ys ≡ true
+  listed-some : (n : ℕ) (ys : List A) → listed x c n .check ys ≡ 0 → nonEmpty ys ≡ true
   unfolding listed viewed
   listed-some zero [] l = absurd (omega arith)
   listed-some zero (y ∷ ys) l = refl

@@ -2,7 +2,7 @@
 use Prim.Native.Nat.{ℕ}
 use mathlib.Core.Bool.{Bool, true, false}
 
--- a value with the next place, or a refusal: document 01's number and the bit place
+-- what reading at a place gives: what was there and the place behind it; or a refusal, by document 01's number and the bit place
 pub data Answer (A : Type 0) : Type 0 where
   got : A → ℕ → Answer A
   refused : ℕ → ℕ → Answer A

@@ -6,9 +6,9 @@ use lib.ListN.{length, take, replicate}
 use lib.Dec.{leb, eqb}
 use Rattle.codec.specs.Codec.{Codec, flag, must, nothing, present, viewed, _&_, _thenBy_}
 
-abbrev pub some : {A : Type 0} → List A → Bool
-some [] = false
-some (x ∷ xs) = true
+abbrev pub nonEmpty : {A : Type 0} → List A → Bool
+nonEmpty [] = false
+nonEmpty (x ∷ xs) = true
 
 -- a bit that asks for more, with room for n: a recurrence bit with room for n entries behind its own; with room for none it has to be 0
 unfoldable pub recurs : ℕ → Codec Bool
@@ -21,10 +21,10 @@ joined z = z .0 .1 ∷ z .1
 
 abbrev pub apart : {A : Type 0} → A → List A → (Bool × A) × List A
 apart x [] = ((false, x), [])
-apart x (y ∷ ys) = ((some ys, y), ys)
+apart x (y ∷ ys) = ((nonEmpty ys, y), ys)
 
 abbrev pub entries : {A : Type 0} → A → Codec A → Codec Bool → Codec (List A) → Codec (List A)
-entries x c bit rest = viewed joined (apart x) (map (c .norm)) some 5 ((bit & c) thenBy (λ e. present [] rest (e .0)))
+entries x c bit rest = viewed joined (apart x) (map (c .norm)) nonEmpty 5 ((bit & c) thenBy (λ e. present [] rest (e .0)))
 
 -- a list of 1 to n + 1 entries of c; x stands for the entry of an empty list, which is refused
 unfoldable pub listed : {A : Type 0} → A → Codec A → ℕ → Codec (List A)

@@ -19,7 +19,7 @@ faultNo Version = 2
 faultNo Code = 3
 -- empty text; in a record also a bad character or length
 faultNo BadText = 4
--- too many addressees, blocks or references, or none where one is due
+-- a list of addressees, blocks or references is longer than it may be, or is empty
 faultNo Count = 5
 -- both or neither form of an address
 faultNo Forms = 6

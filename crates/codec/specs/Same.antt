@@ -1,4 +1,4 @@
--- When two values are the same, as document 01 has it: presence, counts, present fields and used cells agree; unused cells carry no meaning.
+-- The parts of document 01's sameness: of something that may be absent, and of an array of which only the first cells are used. What is not used is not compared.
 use Prim.Native.Nat.{ℕ}
 use mathlib.Core.Path.{_≡_}
 use mathlib.Core.Bool.{Bool, true}

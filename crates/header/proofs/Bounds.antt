@@ -69,7 +69,8 @@ lists-size g l = go (g .present) (g .addresses) l
     go true y l = omega (arith, addresses-counted 15 y l)
     go false y l = omega arith
 
-front-bounded : Bounded front 8559
+-- the fields before the header size
+pub front-bounded : Bounded front 8559
 unfolding front
 front-bounded =
     shaped-bounded _ _

@@ -4,7 +4,7 @@ use mathlib.Core.Path.{_≡_, refl, ap, sym, _∙_}
 use mathlib.Core.Bool.{Bool, true, false, not}
 use Rattle.codec.specs.Codec.{number, flag, tested, must, viewed, present, _thenBy_}
 use Rattle.codec.specs.Characters.{characters}
-use Rattle.codec.specs.Lists.{recurs, some, listed, cells}
+use Rattle.codec.specs.Lists.{recurs, nonEmpty, listed, cells}
 use Rattle.codec.proofs.ListLaws.{recurs-norm, listed-keeps}
 use Rattle.codec.proofs.Agrees.{Agrees, exact-agrees, number-agrees, characters-agrees, thenBy-agrees, and-agrees, present-agrees, optional-agrees, shaped-agrees, tested-agrees, closedBy-agrees, listed-agrees, cells-agrees}
 use Rattle.optional.specs.Optionals.{optionalNumber}
@@ -23,7 +23,7 @@ may w lo hi = shaped-agrees _ _ (optional-agrees 0 (number-agrees w lo hi 3)) (�
 
 text-agrees : (n : ℕ) → Agrees (text n) sameText
 unfolding text sameText tested characters
-text-agrees n = shaped-agrees _ _ (cells-agrees 0 64 n 4 (tested-agrees some 4 (characters-agrees n)) (λ cs. refl)) (λ x. refl)
+text-agrees n = shaped-agrees _ _ (cells-agrees 0 64 n 4 (tested-agrees nonEmpty 4 (characters-agrees n)) (λ cs. refl)) (λ x. refl)
 
 optional-text-agrees : (n : ℕ) → Agrees (optionalText n) sameOptionalText
 unfolding optionalText sameOptionalText

@@ -1,4 +1,4 @@
--- When two records are the same, as document 01 has it: presence, counts, present fields and used characters agree; unused cells carry no meaning.
+-- Document 01's sameness of two records: whatever is used in the one is used in the other and holds the same; a cell that is not used may hold anything.
 -- Structure by structure, in the record's order; a field that is always present and has no unused cell is compared as it stands. (`sameArray` asks
 -- for equally many cells too: the arrays of the declared types always have their 64, 16 or 4.)
 use mathlib.Core.Path.{_≡_}

@@ -5,9 +5,9 @@ use mathlib.Core.Bool.{Bool, true, false, cond, _&&_}
 use mathlib.Core.List.{List, [], _∷_}
 use mathlib.Core.Option.{Option, none, some}
 use lib.Dec.{eqb}
-use Rattle.order.specs.Order.{choose, then, byNumber, list, option, _or_}
+use Rattle.calls.specs.Order.{choose, then, byNumber, list, option, _or_}
 use Rattle.order.specs.Values.{Address, urn, name, byAddress, Key, byKey}
-use Rattle.order.proofs.Orders.{cases}
+use Rattle.calls.proofs.Orders.{cases}
 use Rattle.history.specs.Sheet.{sameList, sameAddress, sameExtension, sameKey}
 
 abbrev pub alike : Ordering → Bool

@@ -11,7 +11,7 @@ use lib.ListN.{length}
 use native.Mathlib.Omega.{arith}
 use Rattle.order.specs.Calls.{Rows}
 use Rattle.order.specs.Sheet as theory
-use Rattle.order.specs.Runs.{exchange, final, answers, states, Changed}
+use Rattle.calls.specs.Runs.{exchange, final, answers, states, Changed}
 use Rattle.order.proofs.Calls as calls
 use Rattle.table.specs.Rows.{see}
 use Rattle.table.specs.WellFormed.{wellFormed}
@@ -24,7 +24,11 @@ use Rattle.history.specs.History.{Run, tableListing, sheetListing, MayCh
 use Rattle.history.specs.SameTable.{SameTable}
 use Rattle.history.proofs.SameTables.{see-same}
 use Rattle.history.proofs.Runs.{AllWell, onRows, Went, went, called-whole, empty-well, no-rows}
+use Rattle.history.specs.Demand3.{Demand3}
 use Rattle.history.proofs.Places.{apart, lines-within}
+use Rattle.history.proofs.Never30.{never-30, listing-never-30}
+use Rattle.history.proofs.Unnamed.{unnamed, unnamed-call}
+use Rattle.history.proofs.Releases.{releases}
 
 -- the sheet is the theory's
 plain : sheet ≡ (λ (x : Arguments). theory.sheet (callOf x))
@@ -55,7 +59,7 @@ module _ {t e : Table} {cs : List Arguments} {xs : List ℕ} {ts : List Table} (
   listings-are n out =
       listings n out ts (w .well)
       ∙ ap (map (rowsListing n out)) (w .rows ∙ ap (λ (s : Rows). states onRows s cs) (no-rows t none))
-      ∙ calls.history-boards callOf (rowsListing n out) cs
+      ∙ calls.history-tables callOf (rowsListing n out) cs
       ∙ ap₂ (λ (f : Arguments → Sheet → ℕ × Sheet) (g : Sheet → Sheet). map (λ s. rowsListing n out (g s)) (states f [] cs)) (sym plain) (λ i s. sym (in-key-order s) i)
 
   -- every table on the way is well formed: 30 never arises
@@ -89,3 +93,19 @@ module _ {t e t′ e′ : Table} {xs ys : List ℕ} {ts ts′ : List Table} (pre
   -- so that the tables are the same, as document 01 has it
   pub same-table : SameTable e′ e
   same-table = see-same e′ e (called-whole pre b (a ∷ rest) run′) (called-whole pre a (b ∷ rest) run) (well-formed run′ none′ .1) (well-formed run none .1) same-end
+
+-- ---- the statement
+
+pub demand-3 : Demand3
+demand-3 =
+    record {
+      history = λ run none. record { sameAnswers = answers-are run none; sameListings = listings-are run none };
+      never30 = λ run none. (never-30 run none, listing-never-30 run none);
+      places = λ pre a b rest run run′ none none′ may free. record {
+        sameAnswers = same-answers pre a b rest run run′ none none′ may free;
+        sameTable = same-table pre a b rest run run′ none none′ may free;
+      };
+      unnamed = unnamed;
+      unnamedCall = unnamed-call;
+      releases = releases;
+    }

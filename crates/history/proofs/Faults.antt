@@ -1,10 +1,9 @@
--- The numbers of document 01's refusals of a record or a key are at most 12: through every way of making a codec, up to the fields of Table I, and from there to the
--- calls. Assumes nothing.
-use Prim.Native.Nat.{ℕ, zero, suc, _+_, _-_, _≤_}
+-- The numbers that a refusal can have. P says which numbers are meant; each part says what P has to hold of, for every check to give such a number: first the ways of making a
+-- codec, then addresses and stamps and so keys, then the other fields of Table I and so records. Assumes nothing.
+use Prim.Native.Nat.{ℕ, zero, suc, _+_, _-_}
 use mathlib.Core.Bool.{Bool, true, false, not}
 use mathlib.Core.List.{List, []}
 use lib.Dec.{leb}
-use native.Mathlib.Omega.{arith}
 use Rattle.bits.specs.Units.{datagramLimit}
 use Rattle.codec.specs.Answer.{pick}
 use Rattle.codec.specs.Codec.{Codec, number, flag, nothing, first, within, _thenBy_, _&_, present, optional, viewed, shaped, tested, must, _closedBy_}
@@ -21,205 +20,208 @@ use Rattle.writer.specs.Writing.{headerSize, faultOf}
 use Rattle.order.specs.declared.Key.{Key as DeclaredKey}
 use Rattle.order.specs.Values.{keyFault}
 
-first-least : {f g : ℕ} → f ≤ 12 → g ≤ 12 → first f g ≤ 12
-unfolding first
-first-least {f = zero} hf hg = hg
-first-least {f = suc f} hf hg = hf
+module _ (P : ℕ → Type 0) (none-given : P 0) where
+  pub first-gives : {f g : ℕ} → P f → P g → P (first f g)
+  unfolding first
+  first-gives {f = zero} hf hg = hg
+  first-gives {f = suc f} hf hg = hf
 
-pick-least : (b : Bool) {f g : ℕ} → f ≤ 12 → g ≤ 12 → pick b f g ≤ 12
-pick-least true hf hg = hf
-pick-least false hf hg = hg
+  pick-gives : (b : Bool) {f g : ℕ} → P f → P g → P (pick b f g)
+  pick-gives true hf hg = hf
+  pick-gives false hf hg = hg
 
--- a test's refusal
-test-least : (b : Bool) (f : ℕ) → f ≤ 12 → pick b 0 f ≤ 12
-test-least true f hf = omega arith
-test-least false f hf = hf
+  -- a test's refusal
+  pub test-gives : (b : Bool) (f : ℕ) → P f → P (pick b 0 f)
+  test-gives true f hf = none-given
+  test-gives false f hf = hf
 
--- ---- the ways of making a codec
+  -- ---- the ways of making a codec
 
--- every refusal's number is at most 12
-record Mild {A : Type 0} (c : Codec A) : Type 0 where
-  mild : (x : A) → c .check x ≤ 12
+  -- whatever a codec's check says, P holds of it
+  record Gives {A : Type 0} (c : Codec A) : Type 0 where
+    gives : (x : A) → P (c .check x)
 
-number-mild : (w lo hi fault : ℕ) → fault ≤ 12 → Mild (number w lo hi fault)
-unfolding number
-number-mild w lo hi fault hf = record { mild = λ n. test-least (within lo hi n) fault hf }
+  number-gives : (w lo hi fault : ℕ) → P fault → Gives (number w lo hi fault)
+  unfolding number
+  number-gives w lo hi fault hf = record { gives = λ n. test-gives (within lo hi n) fault hf }
 
-flag-mild : Mild flag
-unfolding flag
-flag-mild = record { mild = λ b. omega arith }
+  flag-gives : Gives flag
+  unfolding flag
+  flag-gives = record { gives = λ b. none-given }
 
-behind-mild : {A B : Type 0} {c : Codec A} {d : A → Codec B} → Mild c → ((x : A) → Mild (d x)) → Mild (c thenBy d)
-unfolding _thenBy_
-behind-mild mc md = record { mild = λ xy. first-least (mc .mild (xy .0)) (md (xy .0) .mild (xy .1)) }
+  behind-gives : {A B : Type 0} {c : Codec A} {d : A → Codec B} → Gives c → ((x : A) → Gives (d x)) → Gives (c thenBy d)
+  unfolding _thenBy_
+  behind-gives mc md = record { gives = λ xy. first-gives (mc .gives (xy .0)) (md (xy .0) .gives (xy .1)) }
 
-and-mild : {A B : Type 0} {c : Codec A} {d : Codec B} → Mild c → Mild d → Mild (c & d)
-and-mild mc md = behind-mild mc (λ x. md)
+  and-gives : {A B : Type 0} {c : Codec A} {d : Codec B} → Gives c → Gives d → Gives (c & d)
+  and-gives mc md = behind-gives mc (λ x. md)
 
-present-mild : {A : Type 0} (x : A) {c : Codec A} → Mild c → (b : Bool) → Mild (present x c b)
-unfolding present nothing
-present-mild x mc true = mc
-present-mild x mc false = record { mild = λ y. omega arith }
+  present-gives : {A : Type 0} (x : A) {c : Codec A} → Gives c → (b : Bool) → Gives (present x c b)
+  unfolding present nothing
+  present-gives x mc true = mc
+  present-gives x mc false = record { gives = λ y. none-given }
 
-optional-mild : {A : Type 0} (x : A) {c : Codec A} → Mild c → Mild (optional x c)
-optional-mild x mc = behind-mild flag-mild (present-mild x mc)
+  optional-gives : {A : Type 0} (x : A) {c : Codec A} → Gives c → Gives (optional x c)
+  optional-gives x mc = behind-gives flag-gives (present-gives x mc)
 
-viewed-mild : {A B : Type 0} (to : A → B) (from : B → A) (clean : B → B) (fine : B → Bool) (fault : ℕ) → fault ≤ 12 → {c : Codec A} → Mild c → Mild (viewed to from clean fine fault c)
-unfolding viewed
-viewed-mild to from clean fine fault hf mc = record { mild = λ y. pick-least (fine y) (mc .mild (from y)) hf }
+  viewed-gives : {A B : Type 0} (to : A → B) (from : B → A) (clean : B → B) (fine : B → Bool) (fault : ℕ) → P fault → {c : Codec A} → Gives c → Gives (viewed to from clean fine fault c)
+  unfolding viewed
+  viewed-gives to from clean fine fault hf mc = record { gives = λ y. pick-gives (fine y) (mc .gives (from y)) hf }
 
-shaped-mild : {A B : Type 0} (to : A → B) (from : B → A) {c : Codec A} → Mild c → Mild (shaped to from c)
-shaped-mild to from mc = viewed-mild to from _ _ 0 (omega arith) mc
+  shaped-gives : {A B : Type 0} (to : A → B) (from : B → A) {c : Codec A} → Gives c → Gives (shaped to from c)
+  shaped-gives to from mc = viewed-gives to from _ _ 0 none-given mc
 
-tested-mild : {A : Type 0} (test : A → Bool) (fault : ℕ) → fault ≤ 12 → {c : Codec A} → Mild c → Mild (tested test fault c)
-unfolding tested
-tested-mild test fault hf mc = record { mild = λ x. first-least (mc .mild x) (test-least (test x) fault hf) }
+  tested-gives : {A : Type 0} (test : A → Bool) (fault : ℕ) → P fault → {c : Codec A} → Gives c → Gives (tested test fault c)
+  unfolding tested
+  tested-gives test fault hf mc = record { gives = λ x. first-gives (mc .gives x) (test-gives (test x) fault hf) }
 
-must-mild : (b : Bool) (fault : ℕ) → fault ≤ 12 → Mild (must b fault)
-must-mild b fault hf = tested-mild _ fault hf flag-mild
+  must-gives : (b : Bool) (fault : ℕ) → P fault → Gives (must b fault)
+  must-gives b fault hf = tested-gives _ fault hf flag-gives
 
-closedBy-mild : {A : Type 0} {c : Codec A} (fault : ℕ) → fault ≤ 12 → Mild c → Mild (c closedBy fault)
-unfolding _closedBy_
-closedBy-mild fault hf mc = viewed-mild _ _ _ _ 0 (omega arith) (and-mild mc (must-mild false fault hf))
+  closedBy-gives : {A : Type 0} {c : Codec A} (fault : ℕ) → P fault → Gives c → Gives (c closedBy fault)
+  unfolding _closedBy_
+  closedBy-gives fault hf mc = viewed-gives _ _ _ _ 0 none-given (and-gives mc (must-gives false fault hf))
 
-characters-mild : (n : ℕ) → Mild (characters n)
-unfolding characters
-characters-mild n = record { mild = λ cs. test-least (legalCharacters n cs) 4 (omega arith) }
+  nothing-gives : {A : Type 0} (x : A) → Gives (nothing x)
+  unfolding nothing
+  nothing-gives x = record { gives = λ y. none-given }
 
-recurs-mild : (n : ℕ) → Mild (recurs n)
-unfolding recurs
-recurs-mild zero = must-mild false 5 (omega arith)
-recurs-mild (suc n) = flag-mild
+  cells-gives : {A : Type 0} (x : A) (room most fault : ℕ) → P fault → {c : Codec (List A)} → Gives c → Gives (cells x room most fault c)
+  unfolding cells
+  cells-gives x room most fault hf mc = viewed-gives _ _ _ _ fault hf mc
 
-nothing-mild : {A : Type 0} (x : A) → Mild (nothing x)
-unfolding nothing
-nothing-mild x = record { mild = λ y. omega arith }
+  -- ---- texts, addresses, stamps; and a key
 
-listed-mild : {A : Type 0} (x : A) {c : Codec A} → Mild c → (n : ℕ) → Mild (listed x c n)
-unfolding listed
-listed-mild x mc zero = viewed-mild _ _ _ _ 5 (omega arith) (behind-mild (and-mild (recurs-mild zero) mc) (λ e. present-mild [] (nothing-mild []) (e .0)))
-listed-mild x mc (suc n) = viewed-mild _ _ _ _ 5 (omega arith) (behind-mild (and-mild (recurs-mild (suc n)) mc) (λ e. present-mild [] (listed-mild x mc n) (e .0)))
+  module _ (code-given : P 3) (text-given : P 4) (forms-given : P 6) where
+    characters-gives : (n : ℕ) → Gives (characters n)
+    unfolding characters
+    characters-gives n = record { gives = λ cs. test-gives (legalCharacters n cs) 4 text-given }
 
-cells-mild : {A : Type 0} (x : A) (room most fault : ℕ) → fault ≤ 12 → {c : Codec (List A)} → Mild c → Mild (cells x room most fault c)
-unfolding cells
-cells-mild x room most fault hf mc = viewed-mild _ _ _ _ fault hf mc
+    may : (w lo hi : ℕ) → Gives (maybe w lo hi)
+    unfolding optionalNumber
+    may w lo hi = shaped-gives _ _ (optional-gives 0 (number-gives w lo hi 3 code-given))
 
--- ---- Table I
+    num : (w lo hi : ℕ) → Gives (number w lo hi 3)
+    num w lo hi = number-gives w lo hi 3 code-given
 
-may : (w lo hi : ℕ) → Mild (maybe w lo hi)
-unfolding optionalNumber
-may w lo hi = shaped-mild _ _ (optional-mild 0 (number-mild w lo hi 3 (omega arith)))
+    text-gives : (n : ℕ) → Gives (text n)
+    unfolding text
+    text-gives n = shaped-gives _ _ (cells-gives 0 64 n 4 text-given (tested-gives _ 4 text-given (characters-gives n)))
 
-num : (w lo hi : ℕ) → Mild (number w lo hi 3)
-num w lo hi = number-mild w lo hi 3 (omega arith)
+    optional-text-gives : (n : ℕ) → Gives (optionalText n)
+    unfolding optionalText
+    optional-text-gives n = shaped-gives _ _ (optional-gives noText (text-gives n))
 
-text-mild : (n : ℕ) → Mild (text n)
-unfolding text
-text-mild n = shaped-mild _ _ (cells-mild 0 64 n 4 (omega arith) (tested-mild _ 4 (omega arith) (characters-mild n)))
+    unit-name-gives : (b : Bool) → Gives (unitName b)
+    unfolding unitName
+    unit-name-gives b = shaped-gives _ _ (behind-gives (must-gives b 6 forms-given) (present-gives noText (text-gives 64)))
 
-optional-text-mild : (n : ℕ) → Mild (optionalText n)
-unfolding optionalText
-optional-text-mild n = shaped-mild _ _ (optional-mild noText (text-mild n))
+    address-gives : Gives address
+    unfolding address
+    address-gives = shaped-gives _ _ (behind-gives (may 24 0 16777215) (λ u. unit-name-gives (not (u .present))))
 
-unit-name-mild : (b : Bool) → Mild (unitName b)
-unfolding unitName
-unit-name-mild b = shaped-mild _ _ (behind-mild (must-mild b 6 (omega arith)) (present-mild noText (text-mild 64)))
+    dtg-gives : Gives dtg
+    unfolding dtg date time
+    dtg-gives =
+        shaped-gives _ _
+        (and-gives (shaped-gives _ _ (and-gives (num 7 0 99) (and-gives (num 4 1 12) (num 5 1 31)))) (shaped-gives _ _ (and-gives (num 5 0 23) (and-gives (num 6 0 59) (num 6 0 59)))))
 
-address-mild : Mild address
-unfolding address
-address-mild = shaped-mild _ _ (behind-mild (may 24 0 16777215) (λ u. unit-name-mild (not (u .present))))
+    stamp-gives : Gives stamp
+    unfolding stamp
+    stamp-gives = shaped-gives _ _ (and-gives dtg-gives (may 12 0 4095))
 
-addresses-mild : (n : ℕ) → Mild (addresses n)
-unfolding addresses
-addresses-mild n = shaped-mild _ _ (cells-mild noAddress 16 (suc n) 5 (omega arith) (listed-mild noAddress address-mild n))
+    pub key-gives : (k : DeclaredKey) → P (keyFault k)
+    key-gives k = first-gives (address-gives .gives (k .address)) (stamp-gives .gives (k .stamp))
 
-originator-mild : Mild originator
-unfolding originator
-originator-mild = shaped-mild _ _ (optional-mild noAddress address-mild)
+    -- ---- the other fields of Table I; and a record
 
-recipients-mild : Mild recipients
-unfolding recipients
-recipients-mild = shaped-mild _ _ (optional-mild noAddresses (addresses-mild 15))
+    module _ (version-given : P 2) (count-given : P 5) (security-given : P 7) (rule-given : P 8) (size-given : P 10) (long-given : P 12) where
+      recurs-gives : (n : ℕ) → Gives (recurs n)
+      unfolding recurs
+      recurs-gives zero = must-gives false 5 count-given
+      recurs-gives (suc n) = flag-gives
 
-information-mild : (n : ℕ) → Mild (information n)
-unfolding information
-information-mild n = shaped-mild _ _ (behind-mild (recurs-mild n) (present-mild noAddresses (addresses-mild (n - 1))))
+      listed-gives : {A : Type 0} (x : A) {c : Codec A} → Gives c → (n : ℕ) → Gives (listed x c n)
+      unfolding listed
+      listed-gives x mc zero = viewed-gives _ _ _ _ 5 count-given (behind-gives (and-gives (recurs-gives zero) mc) (λ e. present-gives [] (nothing-gives []) (e .0)))
+      listed-gives x mc (suc n) = viewed-gives _ _ _ _ 5 count-given (behind-gives (and-gives (recurs-gives (suc n)) mc) (λ e. present-gives [] (listed-gives x mc n) (e .0)))
 
-front-mild : Mild front
-unfolding front
-front-mild =
-    shaped-mild _ _
-    (and-mild (and-mild (number-mild 4 2 2 2 (omega arith)) (and-mild (may 2 0 1) originator-mild))
-    (behind-mild recipients-mild (λ g. information-mild (roomBehind g))))
+      addresses-gives : (n : ℕ) → Gives (addresses n)
+      unfolding addresses
+      addresses-gives n = shaped-gives _ _ (cells-gives noAddress 16 (suc n) 5 count-given (listed-gives noAddress address-gives n))
 
-dtg-mild : Mild dtg
-unfolding dtg date time
-dtg-mild =
-    shaped-mild _ _
-    (and-mild (shaped-mild _ _ (and-mild (num 7 0 99) (and-mild (num 4 1 12) (num 5 1 31)))) (shaped-mild _ _ (and-mild (num 5 0 23) (and-mild (num 6 0 59) (num 6 0 59)))))
+      originator-gives : Gives originator
+      unfolding originator
+      originator-gives = shaped-gives _ _ (optional-gives noAddress address-gives)
 
-stamp-mild : Mild stamp
-unfolding stamp
-stamp-mild = shaped-mild _ _ (and-mild dtg-mild (may 12 0 4095))
+      recipients-gives : Gives recipients
+      unfolding recipients
+      recipients-gives = shaped-gives _ _ (optional-gives noAddresses (addresses-gives 15))
 
-identity-mild : Mild optionalIdentity
-unfolding optionalIdentity identity
-identity-mild = shaped-mild _ _ (optional-mild noIdentity (shaped-mild _ _ (and-mild (num 4 0 15) (and-mild (num 7 0 127) (may 7 0 127)))))
+      information-gives : (n : ℕ) → Gives (information n)
+      unfolding information
+      information-gives n = shaped-gives _ _ (behind-gives (recurs-gives n) (present-gives noAddresses (addresses-gives (n - 1))))
 
-format-mild : Mild format
-unfolding format
-format-mild = shaped-mild _ _ (and-mild (num 4 0 8) (and-mild (may 4 0 15) (and-mild identity-mild (optional-text-mild 64))))
+      front-gives : Gives front
+      unfolding front
+      front-gives =
+          shaped-gives _ _
+          (and-gives (and-gives (number-gives 4 2 2 2 version-given) (and-gives (may 2 0 1) originator-gives))
+          (behind-gives recipients-gives (λ g. information-gives (roomBehind g))))
 
-codes-mild : Mild codes
-unfolding codes
-codes-mild = shaped-mild _ _ (and-mild (num 2 0 3) (and-mild (num 1 0 1) (and-mild (num 3 0 7) (num 2 0 3))))
+      identity-gives : Gives optionalIdentity
+      unfolding optionalIdentity identity
+      identity-gives = shaped-gives _ _ (optional-gives noIdentity (shaped-gives _ _ (and-gives (num 4 0 15) (and-gives (num 7 0 127) (may 7 0 127)))))
 
-handling-mild : Mild handling
-unfolding handling
-handling-mild = shaped-mild _ _ (and-mild (may 20 0 1048575) (and-mild codes-mild (optional-text-mild 32)))
+      format-gives : Gives format
+      unfolding format
+      format-gives = shaped-gives _ _ (and-gives (num 4 0 8) (and-gives (may 4 0 15) (and-gives identity-gives (optional-text-gives 64))))
 
-times-mild : Mild times
-unfolding times optionalStamp optionalDtg optionalRequests requests
-times-mild =
-    shaped-mild _ _
-    (and-mild (shaped-mild _ _ (optional-mild noStamp stamp-mild))
-    (and-mild (shaped-mild _ _ (optional-mild noDtg dtg-mild))
-    (shaped-mild _ _ (optional-mild noRequests (shaped-mild _ _ (and-mild flag-mild (and-mild flag-mild flag-mild)))))))
+      codes-gives : Gives codes
+      unfolding codes
+      codes-gives = shaped-gives _ _ (and-gives (num 2 0 3) (and-gives (num 1 0 1) (and-gives (num 3 0 7) (num 2 0 3))))
 
-compliance-mild : Mild compliance
-unfolding compliance
-compliance-mild = shaped-mild _ _ (and-mild (num 3 1 6) (and-mild (may 3 0 7) (may 6 0 63)))
+      handling-gives : Gives handling
+      unfolding handling
+      handling-gives = shaped-gives _ _ (and-gives (may 20 0 1048575) (and-gives codes-gives (optional-text-gives 32)))
 
-response-mild : Mild optionalResponse
-unfolding optionalResponse response
-response-mild = shaped-mild _ _ (optional-mild noResponse (shaped-mild _ _ (and-mild stamp-mild (and-mild compliance-mild (optional-text-mild 50)))))
+      times-gives : Gives times
+      unfolding times optionalStamp optionalDtg optionalRequests requests
+      times-gives =
+          shaped-gives _ _
+          (and-gives (shaped-gives _ _ (optional-gives noStamp stamp-gives))
+          (and-gives (shaped-gives _ _ (optional-gives noDtg dtg-gives))
+          (shaped-gives _ _ (optional-gives noRequests (shaped-gives _ _ (and-gives flag-gives (and-gives flag-gives flag-gives)))))))
 
-reference-mild : Mild reference
-unfolding reference
-reference-mild = shaped-mild _ _ (and-mild address-mild stamp-mild)
+      compliance-gives : Gives compliance
+      unfolding compliance
+      compliance-gives = shaped-gives _ _ (and-gives (num 3 1 6) (and-gives (may 3 0 7) (may 6 0 63)))
 
-references-mild : Mild optionalReferences
-unfolding optionalReferences references
-references-mild = shaped-mild _ _ (optional-mild noReferences (shaped-mild _ _ (cells-mild noReference 4 4 5 (omega arith) (listed-mild noReference reference-mild 3))))
+      response-gives : Gives optionalResponse
+      unfolding optionalResponse response
+      response-gives = shaped-gives _ _ (optional-gives noResponse (shaped-gives _ _ (and-gives stamp-gives (and-gives compliance-gives (optional-text-gives 50)))))
 
-block-mild : Mild block
-unfolding block
-block-mild =
-    shaped-mild _ _
-    (and-mild (and-mild format-mild (and-mild handling-mild times-mild)) (and-mild response-mild (closedBy-mild 7 (omega arith) references-mild)))
+      reference-gives : Gives reference
+      unfolding reference
+      reference-gives = shaped-gives _ _ (and-gives address-gives stamp-gives)
 
-blocks-mild : Mild blocks
-unfolding blocks
-blocks-mild = shaped-mild _ _ (cells-mild noBlock 16 16 5 (omega arith) (listed-mild noBlock block-mild 15))
+      references-gives : Gives optionalReferences
+      unfolding optionalReferences references
+      references-gives = shaped-gives _ _ (optional-gives noReferences (shaped-gives _ _ (cells-gives noReference 4 4 5 count-given (listed-gives noReference reference-gives 3))))
 
--- ---- a record's refusal, and a key's
+      block-gives : Gives block
+      unfolding block
+      block-gives =
+          shaped-gives _ _
+          (and-gives (and-gives format-gives (and-gives handling-gives times-gives)) (and-gives response-gives (closedBy-gives 7 security-given references-gives)))
 
-pub fault-least : (h : Header) (count : ℕ) → faultOf h count ≤ 12
-unfolding faultOf
-fault-least h count =
-    first-least (first-least (front-mild .mild (h .front)) (blocks-mild .mild (h .blocks)))
-    (first-least (test-least (rulesKept h) 8 (omega arith))
-    (first-least (test-least (sizesRight (h .blocks) count) 10 (omega arith)) (test-least (leb (headerSize h + count) datagramLimit) 12 (omega arith))))
+      blocks-gives : Gives blocks
+      unfolding blocks
+      blocks-gives = shaped-gives _ _ (cells-gives noBlock 16 16 5 count-given (listed-gives noBlock block-gives 15))
 
-pub key-least : (k : DeclaredKey) → keyFault k ≤ 12
-key-least k = first-least (address-mild .mild (k .address)) (stamp-mild .mild (k .stamp))
+      pub fault-gives : (h : Header) (count : ℕ) → P (faultOf h count)
+      unfolding faultOf
+      fault-gives h count =
+          first-gives (first-gives (front-gives .gives (h .front)) (blocks-gives .gives (h .blocks)))
+          (first-gives (test-gives (rulesKept h) 8 rule-given)
+          (first-gives (test-gives (sizesRight (h .blocks) count) 10 size-given) (test-gives (leb (headerSize h + count) datagramLimit) 12 long-given)))

@@ -4,8 +4,10 @@ mod Runs
 mod Places
 mod Faults
 mod SameKeys
-pub mod Demand3
-pub mod Never30
 pub mod SameTables
 pub mod SameCalls
 pub mod SameRuns
+pub mod Never30
+pub mod Unnamed
+pub mod Releases
+pub mod Demand3

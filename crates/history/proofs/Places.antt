@@ -6,20 +6,21 @@ use mathlib.Core.Option.{some}
 use native.Mathlib.Omega.{arith}
 use Rattle.header.specs.declared.Header.{Header}
 use Rattle.order.specs.Values.{Address, Key, keyOf, keyFault}
-use Rattle.order.specs.Calls.{Deed, receipt, release, key, Call, Apart, refusedFirst, refusedSecond, messages, answerers, linesFor}
+use Rattle.calls.specs.Operations.{receipt, release, key, refusedFirst, refusedSecond, messages, answerers}
+use Rattle.order.specs.Calls.{Operation, Call, Apart, linesFor}
 use Rattle.order.proofs.Orders.{by-key}
-use Rattle.order.proofs.Keyed.{sorted, same-or-not}
+use Rattle.calls.proofs.Keyed.{sorted, same-or-not}
 use Rattle.arguments.specs.Arguments.{Arguments, posting, receiving, releasing, postingFault, receiptFault, named, callOf, answerer}
 use Rattle.arguments.proofs.Names.{message-is, answerer-is}
 use Rattle.history.specs.History.{MayChange, otherMessage, otherAnswerer, lineFor}
 
-by-message : (c d : Call) → ((a b : Deed) → c ≡ inr a → d ≡ inr b → key a ≡ key b → ⊥) → Apart c d
+by-message : (c d : Call) → ((a b : Operation) → c ≡ inr a → d ≡ inr b → key a ≡ key b → ⊥) → Apart c d
 by-message (inl n) d h = refusedFirst
 by-message (inr a) (inl n) h = refusedSecond
 by-message (inr a) (inr b) h = messages (h a b refl refl)
 
 -- two receipts, as named
-by-answerer : (f g : ℕ) (j k : Key) (v w : Address) (c d : ℕ) → (named f (receipt j v c) ≡ inr (receipt j v c) → named g (receipt k w d) ≡ inr (receipt k w d) → v ≡ w → ⊥) → Apart (named f (receipt j v c)) (named g (receipt k w d))
+by-answerer : (f g : ℕ) (j k : Key) (v w : Address) (c d : ℕ) → (named f (receipt j (v, c)) ≡ inr (receipt j (v, c)) → named g (receipt k (w, d)) ≡ inr (receipt k (w, d)) → v ≡ w → ⊥) → Apart (named f (receipt j (v, c))) (named g (receipt k (w, d)))
 by-answerer (suc f) g j k v w c d h = refusedFirst
 by-answerer zero (suc g) j k v w c d h = refusedSecond
 by-answerer zero zero j k v w c d h = same-or-not (sorted by-key) j k (λ p. rw p (answerers (h refl refl))) messages
@@ -33,7 +34,7 @@ pub apart : (x y : Arguments) → MayChange x y → Apart (callOf x) (callOf y)
 apart x y (otherMessage h) = by-message (callOf x) (callOf y) (λ a b e f g. h (key b) (message-is x a e ∙ ap some g) (message-is y b f))
 apart x y (otherAnswerer {g = g} {h = h} {m = m} {n = n} {c = c} {d = d} far) = receipts-apart g h m n c d far
 
-named-lines : (f : ℕ) (d : Deed) (n : ℕ) → linesFor (inr d) ≤ n → linesFor (named f d) ≤ n
+named-lines : (f : ℕ) (d : Operation) (n : ℕ) → linesFor (inr d) ≤ n → linesFor (named f d) ≤ n
 named-lines zero d n l = l
 named-lines (suc f) d n l = omega arith
 

@@ -4,8 +4,8 @@ use mathlib.Core.Path.{_≡_, refl, ap, ap₂, _∙_}
 use mathlib.Core.Bool.{true}
 use mathlib.Core.List.{List, [], _∷_, _++_, map}
 use Rattle.header.specs.Rules.{all}
-use Rattle.order.specs.Calls.{Rows, board}
-use Rattle.order.specs.Runs.{final, answers, states, stop, call}
+use Rattle.order.specs.Calls.{Rows, onTable}
+use Rattle.calls.specs.Runs.{final, answers, states, stop, call}
 use Rattle.table.specs.Rows.{see, Whole}
 use Rattle.table.specs.WellFormed.{increasing, wellFormed}
 use Rattle.table.specs.declared.Table.{Table}
@@ -18,7 +18,7 @@ AllWell [] = Unit {0}
 AllWell (t ∷ ts) = (wellFormed t ≡ true) × AllWell ts
 
 abbrev pub onRows : Arguments → Rows → ℕ × Rows
-onRows x = board (callOf x)
+onRows x = onTable (callOf x)
 
 pub record Went (t : Table) (cs : List Arguments) (xs : List ℕ) (ts : List Table) (e : Table) : Type 0 where
   pub answered : xs ≡ answers onRows (see t) cs

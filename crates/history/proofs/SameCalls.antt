@@ -27,7 +27,8 @@ use Rattle.writer.specs.Writing.{Writing, done, rejected, answered, checking, h
 use Rattle.writer.proofs.Valid.{valid-parts}
 use Rattle.roundtrip.proofs.SameRecords.{same-checking}
 use Rattle.order.specs.Values.{addressOf, keyOf, keyFault}
-use Rattle.order.specs.Calls.{Deed, post, receipt, release}
+use Rattle.calls.specs.Operations.{post, receipt, release}
+use Rattle.order.specs.Calls.{Operation, make}
 use Rattle.order.specs.Requests.{anyOf, askOf}
 use Rattle.order.specs.declared.Key.{Key as DeclaredKey}
 use Rattle.arguments.specs.Arguments.{posting, receiving, releasing, hasBlock, blockAt, asks, recipientsOf, someRecipient, oneRecipient, firstRecipient, postingKey, receiptKey, postingFault, receiptFault, named, callOf}
@@ -111,7 +112,7 @@ addresses-same (Forall₂·cons {a = x} {b = y} s r) h = ap₂ _∷_ (address-sa
 
 -- ---- calls
 
-named-same : (f f′ : ℕ) (d d′ : Deed) → f ≡ f′ → (f ≡ 0 → d ≡ d′) → named f d ≡ named f′ d′
+named-same : (f f′ : ℕ) (d d′ : Operation) → f ≡ f′ → (f ≡ 0 → d ≡ d′) → named f d ≡ named f′ d′
 named-same zero f′ d d′ e h = rw (← e) (ap inr (h refl))
 named-same (suc f) f′ d d′ e h = rw (← e)
 
@@ -252,12 +253,12 @@ module _ (x y : Header) (s : Same x y) where
     -- postings of records that are the same are one call
     pub same-posting : callOf (posting x n count) ≡ callOf (posting y n count)
     unfolding callOf
-    same-posting = named-same _ _ _ _ posting-fault-same (λ e. λ i. post (posting-key e i) (posting-asks e i) (posting-recipients e i))
+    same-posting = named-same _ _ _ _ posting-fault-same (λ e. λ i. post (posting-key e i) (make (posting-asks e i) (posting-recipients e i)))
 
     -- and so are receipts
     pub same-receiving : callOf (receiving x n count) ≡ callOf (receiving y n count)
     unfolding callOf
-    same-receiving = named-same _ _ _ _ receipt-fault-same (λ e. λ i. receipt (receipt-key e i) (receipt-answerer e i) (receipt-code e i))
+    same-receiving = named-same _ _ _ _ receipt-fault-same (λ e. λ i. receipt (receipt-key e i) (receipt-answerer e i, receipt-code e i))
 
 -- releases by keys that are the same are one call
 pub same-releasing : (j k : DeclaredKey) → sameKey j k → callOf (releasing j) ≡ callOf (releasing k)

@@ -7,8 +7,8 @@ use mathlib.Core.Bool.{Bool, true, false}
 use mathlib.Core.List.{List, _∷_, Forall₂, Forall₂·nil, Forall₂·cons}
 use native.Mathlib.Omega.{arith}
 use Rattle.codec.specs.Answer.{pick}
-use Rattle.order.specs.Calls.{Call, board}
-use Rattle.order.specs.Runs.{stop, call}
+use Rattle.order.specs.Calls.{Call, onTable}
+use Rattle.calls.specs.Runs.{stop, call}
 use Rattle.table.specs.Rows.{see}
 use Rattle.table.specs.WellFormed.{wellFormed}
 use Rattle.table.specs.declared.Table.{Table}
@@ -28,7 +28,7 @@ same-call (sameReleasing {j = j} {k = k} s) = same-releasing j k s
 -- one call, whatever the tables
 module _ {a b : Arguments} {x y x′ y′ : Table} {m n : ℕ} (d : Did a x m x′) (d′ : Did b y n y′) (c : SameArguments a b) (s : SameTable x y) where
   pub call-answer : m ≡ n
-  call-answer = d .answer ∙ same-answer x y s a ∙ ap (λ (f : Call). pick (wellFormed y) (board f (see y) .0) 30) (same-call c) ∙ sym (d′ .answer)
+  call-answer = d .answer ∙ same-answer x y s a ∙ ap (λ (f : Call). pick (wellFormed y) (onTable f (see y) .0) 30) (same-call c) ∙ sym (d′ .answer)
 
   pub call-same : SameTable x′ y′
   call-same = by (wellFormed x) refl
@@ -36,7 +36,7 @@ module _ {a b : Arguments} {x y x′ y′ : Table} {m n : ℕ} (d : Did a x m x�
       by : (t : Bool) → wellFormed x ≡ t → SameTable x′ y′
       by true e =
           let g : wellFormed y ≡ true = sym (same-well x y s) ∙ e in
-          let r : rowsAfter a y ≡ rowsAfter b y = ap (λ (f : Call). pick (wellFormed y) (board f (see y) .1) (see y)) (same-call c) in
+          let r : rowsAfter a y ≡ rowsAfter b y = ap (λ (f : Call). pick (wellFormed y) (onTable f (see y) .1) (see y)) (same-call c) in
           see-same x′ y′ (d .cells) (d′ .cells) (d .well ∙ e) (d′ .well ∙ g) (d .rows ∙ same-rows x y s a e ∙ r ∙ sym (d′ .rows))
       by false e =
           let g : wellFormed y ≡ false = sym (same-well x y s) ∙ e in

@@ -16,7 +16,7 @@ use Rattle.header.specs.Table.{address}
 use Rattle.header.specs.Rules.{all}
 use Rattle.header.specs.declared.Requests.{Requests}
 use Rattle.order.specs.Values.{Address, addressOf, Key, keyOf, byAddress, byKey, keyFault}
-use Rattle.order.specs.Calls.{board}
+use Rattle.order.specs.Calls.{onTable}
 use Rattle.order.specs.Requests.{askOf}
 use Rattle.table.specs.Rows.{codeOf, markOf, recipientOf, usedRecipients, rowOf, usedRows, see, WholeRows, Whole}
 use Rattle.table.specs.WellFormed.{increasing, recipientFine, rowFine, wellFormed}
@@ -134,7 +134,7 @@ module _ (x y : Table) (s : SameTable x y) where
 
   -- each call answers the same
   pub same-answer : (a : Arguments) → answerOn a x ≡ answerOn a y
-  same-answer a = go (wellFormed x) _ _ 30 (λ e. ap (λ r. board (callOf a) r .0) (same-see e)) ∙ ap (λ b. pick b (board (callOf a) (see y) .0) 30) same-well
+  same-answer a = go (wellFormed x) _ _ 30 (λ e. ap (λ r. onTable (callOf a) r .0) (same-see e)) ∙ ap (λ b. pick b (onTable (callOf a) (see y) .0) 30) same-well
 
   -- and leaves the same rows, where the table is well formed
   pub same-rows : (a : Arguments) → wellFormed x ≡ true → rowsAfter a x ≡ rowsAfter a y

@@ -9,11 +9,13 @@ use lib.ListN.{length}
 use lib.Dec.{leb}
 use Rattle.codec.specs.Answer.{pick}
 use Rattle.codec.specs.Codec.{first}
-use Rattle.order.specs.Order.{choose}
+use Rattle.calls.specs.Order.{choose}
 use Rattle.order.specs.Values.{Address, byAddress, Key, keyOf, byKey, keyFault}
-use Rattle.order.specs.Keyed.{find, put, alter, without, sort}
+use Rattle.calls.specs.Keyed.{find, put, alter, without, sort}
 use Rattle.order.specs.Requests.{Ask, Mark, blank, anyOf, openTo, settle}
-use Rattle.order.specs.Calls.{Row, make, post, receipt, release}
+use Rattle.calls.specs.Operations as operations
+use Rattle.calls.specs.Operations.{post, receipt, release}
+use Rattle.order.specs.Calls.{Row, Rows, make, reply, written, marked, rules}
 use Rattle.order.specs.Sheet as theory
 use Rattle.writer.specs.Writing.{faultOf}
 use Rattle.arguments.specs.Arguments.{Arguments, posting, receiving, releasing, hasBlock, blockAt, asks, someRecipient, oneRecipient, postingFault, receiptFault, named, callOf}
@@ -36,14 +38,14 @@ coded-at w c a [] = refl
 coded-at w c a (x ∷ l) =
     rw (address-alike w (x .0), coded-at w c a l) (alike-cond (byAddress w (x .0)) ((x .0, coded a c (x .1)) ∷ l) (x ∷ alter byAddress w (coded a c) l))
 
-abbrev written : Address → ℕ → Row → Row
-written w c r = (r .0, codedAt w c (r .0) (r .1))
+abbrev coding : Address → ℕ → Row → Row
+coding w c r = (r .0, codedAt w c (r .0) (r .1))
 
-answered-is : (k : Key) (w : Address) (c : ℕ) (s : Sheet) → answered k w c s ≡ alter byKey k (written w c) s
+answered-is : (k : Key) (w : Address) (c : ℕ) (s : Sheet) → answered k w c s ≡ alter byKey k (coding w c) s
 unfolding answered alter
 answered-is k w c [] = refl
 answered-is k w c (x ∷ s) =
-    rw (key-alike k (x .0), answered-is k w c s) (alike-cond (byKey k (x .0)) ((x .0, written w c (x .1)) ∷ s) (x ∷ alter byKey k (written w c) s))
+    rw (key-alike k (x .0), answered-is k w c s) (alike-cond (byKey k (x .0)) ((x .0, coding w c (x .1)) ∷ s) (x ∷ alter byKey k (coding w c) s))
 
 taken-out : (k : Key) (s : Sheet) → takenOut k s ≡ without byKey k s
 unfolding takenOut without
@@ -99,18 +101,22 @@ unfolding first
 alone zero = refl
 alone (suc f) = refl
 
+-- the answer and the rows, where nothing is counted
+abbrev rowsOf : ℕ × (Rows × Unit {0}) → ℕ × Rows
+rowsOf x = (x .0, x .1 .0)
+
 module _ (k : Key) (s : Sheet) where
-  posts : (fault : ℕ) (a : Ask) (rs : List Address) → ruled (first fault (refusal (notHeld (rowWith k s) ∷ pick (leb 32 (length s)) 23 0 ∷ []))) s (s ++ (k, (a, newAnswers rs)) ∷ []) ≡ theory.sheet (named fault (post k a rs)) s
-  unfolding first refusal theory.sheet theory.posting make
+  posts : (fault : ℕ) (a : Ask) (rs : List Address) → ruled (first fault (refusal (notHeld (rowWith k s) ∷ pick (leb 32 (length s)) 23 0 ∷ []))) s (s ++ (k, (a, newAnswers rs)) ∷ []) ≡ theory.sheet (named fault (post k (make a rs))) s
+  unfolding first refusal theory.sheet operations.sheet operations.posting make
   posts (suc f) a rs = refl
   posts zero a rs = rw (row-with k s, new-answers rs) (go (find byKey k s) (leb 32 (length s)))
     where
-      go : (o : Option Row) (b : Bool) → ruled (refusal (notHeld o ∷ pick b 23 0 ∷ [])) s (s ++ (k, (a, sort byAddress (map (λ r. (r, blank)) rs))) ∷ []) ≡ theory.posting k (make a rs) s o b
+      go : (o : Option Row) (b : Bool) → ruled (refusal (notHeld o ∷ pick b 23 0 ∷ [])) s (s ++ (k, (a, sort byAddress (map (λ r. (r, blank)) rs))) ∷ []) ≡ rowsOf (operations.posting rules k (make a rs) (s, tt) o (cond b (some 23) none))
       go (some r) b = refl
       go none true = refl
       go none false = refl
 
-  posting-is : (f block asks to : ℕ) (a : Ask) (rs : List Address) → ruled (refusal (f ∷ block ∷ asks ∷ to ∷ notHeld (rowWith k s) ∷ pick (leb 32 (length s)) 23 0 ∷ [])) s (s ++ (k, (a, newAnswers rs)) ∷ []) ≡ theory.sheet (named (first f (first block (first asks to))) (post k a rs)) s
+  posting-is : (f block asks to : ℕ) (a : Ask) (rs : List Address) → ruled (refusal (f ∷ block ∷ asks ∷ to ∷ notHeld (rowWith k s) ∷ pick (leb 32 (length s)) 23 0 ∷ [])) s (s ++ (k, (a, newAnswers rs)) ∷ []) ≡ theory.sheet (named (first f (first block (first asks to))) (post k (make a rs))) s
   posting-is f block asks to a rs = ap (λ (n : ℕ). ruled n s (s ++ (k, (a, newAnswers rs)) ∷ [])) (together f block asks to (notHeld (rowWith k s) ∷ pick (leb 32 (length s)) 23 0 ∷ [])) ∙ posts (first f (first block (first asks to))) a rs
 
   -- the code is written in the row that is found, at the recipient that is found
@@ -118,41 +124,41 @@ module _ (k : Key) (s : Sheet) where
     written-is : (r : Row) (m : Mark) → find byKey k s ≡ some r → find byAddress w (r .1) ≡ some m → answered k w c s ≡ alter byKey k (λ o. (r .0, alter byAddress w (λ p. coded (r .0) c m) (r .1))) s
     written-is r m e d =
         answered-is k w c s
-        ∙ alter-found byKey k (written w c) s r e
+        ∙ alter-found byKey k (coding w c) s r e
         ∙ ap (λ (l : Answers). alter byKey k (λ o. (r .0, l)) s) (coded-at w c (r .0) (r .1) ∙ alter-found byAddress w (coded (r .0) c) (r .1) m d)
 
-    marked-is : (r : Row) (m : Mark) → find byKey k s ≡ some r → find byAddress w (r .1) ≡ some m → ruled (pick (anyOf (openTo (r .0) c m)) 0 28) s (answered k w c s) ≡ theory.writing k w r s (settle (r .0) c m)
-    unfolding settle coded theory.writing
+    marked-is : (r : Row) (m : Mark) → find byKey k s ≡ some r → find byAddress w (r .1) ≡ some m → ruled (pick (anyOf (openTo (r .0) c m)) 0 28) s (answered k w c s) ≡ rowsOf (operations.writing rules k (s, tt) (marked w r (reply (r .0) c (some m))))
+    unfolding settle coded operations.writing
     marked-is r m e d = go (anyOf (openTo (r .0) c m)) (written-is r m e d)
       where
-        go : (b : Bool) → answered k w c s ≡ alter byKey k (λ o. (r .0, alter byAddress w (λ p. coded (r .0) c m) (r .1))) s → ruled (pick b 0 28) s (answered k w c s) ≡ theory.writing k w r s (cond b (some (coded (r .0) c m)) none)
+        go : (b : Bool) → answered k w c s ≡ alter byKey k (λ o. (r .0, alter byAddress w (λ p. coded (r .0) c m) (r .1))) s → ruled (pick b 0 28) s (answered k w c s) ≡ rowsOf (operations.writing rules k (s, tt) (marked w r (written (cond b (some (coded (r .0) c m)) none))))
         go true q = ap (λ (t : Sheet). (0, t)) q
         go false q = refl
 
-    there-is : (r : Row) (o : Option Mark) → find byKey k s ≡ some r → find byAddress w (r .1) ≡ o → ruled (openThere (r .0) c o) s (answered k w c s) ≡ theory.answering k w c r s o
-    unfolding theory.answering
+    there-is : (r : Row) (o : Option Mark) → find byKey k s ≡ some r → find byAddress w (r .1) ≡ o → ruled (openThere (r .0) c o) s (answered k w c s) ≡ rowsOf (operations.writing rules k (s, tt) (marked w r (reply (r .0) c o)))
+    unfolding operations.writing
     there-is r none e d = refl
     there-is r (some m) e d = marked-is r m e d
 
-    answer-is : (o : Option Row) → find byKey k s ≡ o → ruled (mayAnswer w c o) s (answered k w c s) ≡ theory.receiving k w c s o
-    unfolding theory.receiving
+    answer-is : (o : Option Row) → find byKey k s ≡ o → ruled (mayAnswer w c o) s (answered k w c s) ≡ rowsOf (operations.receiving rules k (w, c) (s, tt) o)
+    unfolding operations.receiving
     answer-is none e = refl
     answer-is (some r) e = rw (answers-of w (r .1)) (there-is r (find byAddress w (r .1)) e refl)
 
-    receives : (fault : ℕ) → ruled (first fault (refusal (mayAnswer w c (rowWith k s) ∷ []))) s (answered k w c s) ≡ theory.sheet (named fault (receipt k w c)) s
-    unfolding first refusal theory.sheet
+    receives : (fault : ℕ) → ruled (first fault (refusal (mayAnswer w c (rowWith k s) ∷ []))) s (answered k w c s) ≡ theory.sheet (named fault (receipt k (w, c))) s
+    unfolding first refusal theory.sheet operations.sheet
     receives (suc f) = refl
     receives zero = rw (row-with k s, alone (mayAnswer w c (find byKey k s))) (answer-is (find byKey k s) refl)
 
-    receiving-is : (f block answers one : ℕ) → ruled (refusal (f ∷ block ∷ answers ∷ one ∷ mayAnswer w c (rowWith k s) ∷ [])) s (answered k w c s) ≡ theory.sheet (named (first f (first block (first answers one))) (receipt k w c)) s
+    receiving-is : (f block answers one : ℕ) → ruled (refusal (f ∷ block ∷ answers ∷ one ∷ mayAnswer w c (rowWith k s) ∷ [])) s (answered k w c s) ≡ theory.sheet (named (first f (first block (first answers one))) (receipt k (w, c))) s
     receiving-is f block answers one = ap (λ (n : ℕ). ruled n s (answered k w c s)) (together f block answers one (mayAnswer w c (rowWith k s) ∷ [])) ∙ receives (first f (first block (first answers one)))
 
   releasing-is : (fault : ℕ) → ruled (refusal (fault ∷ someHeld (rowWith k s) ∷ [])) s (takenOut k s) ≡ theory.sheet (named fault (release k)) s
-  unfolding first refusal theory.sheet theory.releasing
+  unfolding first refusal theory.sheet operations.sheet operations.releasing
   releasing-is (suc f) = refl
   releasing-is zero = rw (row-with k s, taken-out k s) (go (find byKey k s))
     where
-      go : (o : Option Row) → ruled (refusal (someHeld o ∷ [])) s (without byKey k s) ≡ theory.releasing k s o
+      go : (o : Option Row) → ruled (refusal (someHeld o ∷ [])) s (without byKey k s) ≡ rowsOf (operations.releasing rules k (s, tt) o)
       go none = refl
       go (some r) = refl
 

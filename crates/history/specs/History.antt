@@ -6,7 +6,7 @@ use mathlib.Core.Option.{some}
 use lib.ListN.{length}
 use Rattle.header.specs.declared.Header.{Header}
 use Rattle.order.specs.Values.{Address, Key}
-use Rattle.order.specs.Runs.{Ran}
+use Rattle.calls.specs.Runs.{Ran}
 use Rattle.table.specs.Rows.{see}
 use Rattle.table.specs.declared.Table.{Table}
 use Rattle.arguments.specs.Arguments.{Arguments, posting, receiving, releasing, message, answerer}

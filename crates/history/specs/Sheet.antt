@@ -9,12 +9,12 @@ use lib.Dec.{leb, eqb}
 use Rattle.codec.specs.Answer.{pick}
 use Rattle.codec.specs.Codec.{first}
 use Rattle.writer.specs.Writing.{faultOf}
-use Rattle.order.specs.Order.{choose}
+use Rattle.calls.specs.Order.{choose}
 use Rattle.order.specs.Values.{Address, urn, name, addressOf, byAddress, Key, keyOf, byKey, keyFault}
 use Rattle.order.specs.Requests.{Ask, Mark, blank, anyOf, openTo, write, askOf}
 use Rattle.arguments.specs.Arguments.{Arguments, posting, receiving, releasing, hasBlock, blockAt, asks, recipientsOf, someRecipient, oneRecipient, postingKey, receiptKey}
 
--- at each recipient a code or nothing for each request
+-- the recipients, each with what it has answered so far
 abbrev pub Answers : Type 0
 Answers = List (Address × Mark)
 
@@ -136,7 +136,7 @@ sheet (posting h n count) s =
     let k = keyOf (postingKey h b) in
     ruled (refusal (faultOf h count ∷ pick (hasBlock h n) 0 29 ∷ pick (asks b) 0 20 ∷ pick (someRecipient h) 0 21 ∷ notHeld (rowWith k s) ∷ pick (leb 32 (length s)) 23 0 ∷ []))
     s (s ++ (k, (askOf (b .times .requests .requests), newAnswers (map addressOf (recipientsOf h)))) ∷ [])
--- the record's own refusals; 29; 24: no G8; 25: no originator, or not exactly one entry in G2; then 26, 27 or 28
+-- the record's own refusals; 29; 24: no G8; 25: G1 is absent, or G2 has no entry or several; then 26, 27 or 28
 sheet (receiving h n count) s =
     let b = blockAt h n in
     let k = keyOf (receiptKey h b) in

@@ -11,7 +11,7 @@ use Rattle.header.specs.Table.{address}
 use Rattle.header.specs.Rules.{_⇒_, all}
 use Rattle.header.specs.declared.Requests.{Requests}
 use Rattle.rules.proofs.Over.{used-step, Passed, passed-none, passed-more, passed-not, passed-all}
-use Rattle.order.specs.Order.{choose}
+use Rattle.calls.specs.Order.{choose}
 use Rattle.order.specs.Requests.{answeredBy}
 use Rattle.table.specs.WellFormed.{increasing, fits, unanswered, recipientFine}
 use Rattle.table.specs.declared.Recipient.{Recipient}

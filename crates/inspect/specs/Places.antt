@@ -3,7 +3,7 @@ use Prim.Native.Nat.{ℕ, _+_, Ordering}
 use mathlib.Core.Bool.{true, false}
 use lib.Dec.{ltb}
 use Rattle.codec.specs.Answer.{pick}
-use Rattle.order.specs.Order.{choose}
+use Rattle.calls.specs.Order.{choose}
 use Rattle.table.specs.declared.Position.{Position}
 
 -- the place so far, one row further, where the key that is sought compares so with the i-th row's: a place that was found stays

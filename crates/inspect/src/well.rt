@@ -5,7 +5,7 @@ ghost use Prim.Native.Nat.{_≤_};
 ghost use lib.Dec.{eqb};
 ghost use Rattle.codec.specs.Refusals.{checkNo};
 ghost use Rattle.header.specs.Rules.{all};
-ghost use Rattle.order.specs.Order.{choose};
+ghost use Rattle.calls.specs.Order.{choose};
 ghost use Rattle.order.specs.Requests.{answeredBy};
 ghost use Rattle.order.specs.Values.{addressOf, keyOf, byAddress, byKey, comparisonOf, keyFault};
 ghost use Rattle.table.specs.Rows.{usedRecipients};

@@ -1,22 +1,22 @@
 // Calls on the table of pending messages, at the limits of document 01. Each is a line of a script, which is printed
 // with what came of it: `done` or `refused` with the number, the listing, or a row's octets. The file stdout has
 // what each has to be, worked from document 01.
-mod calls;
 mod effects;
 mod lists;
 mod play;
 mod records;
+mod refusals;
 mod rows;
 mod tell;
 mod words;
 mod wrong;
 
 fn main() {
-    calls::worked();
-    calls::postings();
-    calls::records();
-    calls::receipts();
-    calls::releases();
+    refusals::worked();
+    refusals::postings();
+    refusals::records();
+    refusals::receipts();
+    refusals::releases();
     effects::codes();
     effects::code_two();
     effects::recipients();

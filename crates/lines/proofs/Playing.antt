@@ -9,7 +9,7 @@ use Rattle.codec.specs.Answer.{pick}
 use Rattle.header.specs.Zero.{noBlock}
 use Rattle.header.specs.declared.Block.{Block}
 use Rattle.header.specs.declared.Header.{Header}
-use Rattle.order.specs.Calls.{Rows, board}
+use Rattle.order.specs.Calls.{Rows, onTable}
 use Rattle.table.specs.Rows.{see}
 use Rattle.table.specs.WellFormed.{wellFormed}
 use Rattle.table.specs.declared.Table.{Table}
@@ -75,7 +75,7 @@ behind-none h count t = record { within = omega arith; rows = go (wellFormed t);
     go true = refl
     go false = refl
 
-step : (w : Bool) (a : Arguments) (x y : Rows) → pick w (board (callOf a) (pick w x y) .1) (pick w x y) ≡ pick w (board (callOf a) x .1) y
+step : (w : Bool) (a : Arguments) (x y : Rows) → pick w (onTable (callOf a) (pick w x y) .1) (pick w x y) ≡ pick w (onTable (callOf a) x .1) y
 step true a x y = refl
 step false a x y = refl
 
@@ -85,7 +85,7 @@ behind-more h count t i t′ t″ b k p =
     let n : i + 1 ≡ suc i = omega arith in
     let e : see t″ ≡ rowsAfter (turn h (suc i) count) t′ = p .rows ∙ ap (λ (m : ℕ). rowsAfter (turn h m count) t′) n in
     let r : see t″ ≡ rowsOf h count t (suc i) =
-    e ∙ ap₂ (λ (w : Bool) (x : Rows). pick w (board (callOf (turn h (suc i) count)) x .1) x) (b .well) (b .rows) ∙ step (wellFormed t) (turn h (suc i) count) (after h count (see t) i) (see t) in
+    e ∙ ap₂ (λ (w : Bool) (x : Rows). pick w (onTable (callOf (turn h (suc i) count)) x .1) x) (b .well) (b .rows) ∙ step (wellFormed t) (turn h (suc i) count) (after h count (see t) i) (see t) in
     record { within = omega arith; rows = rw n r; well = p .well ∙ b .well }
 
 pub behind-all : (h : Header) (count : ℕ) (t : Table) (i : ℕ) (t′ : Table) → Behind h count t i t′ → h .blocks .count ≤ i → (see t′ ≡ rowsOf h count t (h .blocks .count)) × (wellFormed t′ ≡ wellFormed t)

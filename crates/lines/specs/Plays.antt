@@ -5,7 +5,7 @@ use mathlib.Core.List.{List}
 use lib.ListN.{length}
 use Rattle.codec.specs.Answer.{pick}
 use Rattle.header.specs.declared.Header.{Header}
-use Rattle.order.specs.Calls.{Rows, board}
+use Rattle.order.specs.Calls.{Rows, onTable}
 use Rattle.table.specs.Rows.{see}
 use Rattle.table.specs.WellFormed.{wellFormed}
 use Rattle.table.specs.declared.Table.{Table}
@@ -20,7 +20,7 @@ turn h n count = pick (blockAt h n .response .present) (receiving h n count) (po
 -- the rows behind the calls of the first n blocks, the first block's call first; a refused call leaves them as they are
 unfoldable pub after : Header → ℕ → Rows → ℕ → Rows
 after h count rows zero = rows
-after h count rows (suc n) = board (callOf (turn h (suc n) count)) (after h count rows n) .1
+after h count rows (suc n) = onTable (callOf (turn h (suc n) count)) (after h count rows n) .1
 
 -- an ill-formed table is refused by every call
 abbrev pub rowsOf : Header → ℕ → Table → ℕ → Rows

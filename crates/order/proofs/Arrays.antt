@@ -6,10 +6,10 @@ use Prim.Native.Nat.{ℕ, zero, suc, _<_, _≤_, suc-le-suc, zero-le, Ordering, 
 use native.Mathlib.Nat.{le-of-suc-le-suc, not-suc-le-zero}
 use native.Mathlib.Omega.{arith}
 use lib.ListN.{length, take, getD}
-use Rattle.order.specs.Order.{NotGt}
-use Rattle.order.specs.Keyed.{find, put, alter, InOrder, tab}
-use Rattle.order.proofs.Orders.{Order, cases, cmp-same}
-use Rattle.order.proofs.Keyed.{Placing, sorted, past-order, find-lt}
+use Rattle.calls.specs.Order.{NotGt}
+use Rattle.calls.specs.Keyed.{find, put, alter, InOrder, tab}
+use Rattle.calls.proofs.Orders.{Order, cases, cmp-same}
+use Rattle.calls.proofs.Keyed.{Placing, sorted, past-order, find-lt}
 
 pub length-tab : {A : Type 0} (n : ℕ) (g : ℕ → A) → length (tab n g) ≡ n
 unfolding tab

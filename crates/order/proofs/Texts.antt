@@ -6,8 +6,8 @@ use lib.ListN.{length, take, drop, getD, length-take, drop-of-length-le}
 use lib.Seq.{drop-cons, getD-take}
 use native.Mathlib.Numerals.{add-one}
 use native.Mathlib.Omega.{arith}
-use Rattle.order.specs.Order.{then, byNumber, list}
-use Rattle.order.proofs.Orders.{lt→compare, gt→compare, eq→compare}
+use Rattle.calls.specs.Order.{then, byNumber, list}
+use Rattle.calls.proofs.Orders.{lt→compare, gt→compare, eq→compare}
 
 -- the used characters before i are the same in both
 pub record Level (x y : List ℕ) (n m i : ℕ) : Type 0 where

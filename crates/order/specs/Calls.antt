@@ -1,29 +1,14 @@
--- The board's calls: rows in key order, and what each call answers and does to the row of its key.
+-- The calls on the table of pending messages: what each names, and the rules by which the theory of the calls answers it and changes the row of its key.
 use mathlib.Core.Logic.{_≢_, _⊎_, inl, inr}
-use mathlib.Core.Bool.{Bool, true, false}
+use mathlib.Core.Bool.{Bool}
 use mathlib.Core.List.{List, map}
 use mathlib.Core.Option.{Option, none, some}
 use Prim.Native.Nat.{ℕ}
 use lib.Dec.{leb}
+use Rattle.calls.specs.Keyed.{find, alter, sort}
+use Rattle.calls.specs.Operations as theory
 use Rattle.order.specs.Values.{Key, Address, byKey, byAddress}
-use Rattle.order.specs.Keyed.{find, alter, sort}
 use Rattle.order.specs.Requests.{Ask, Mark, blank, settle}
-use Rattle.order.specs.Machine.{step}
-
--- what a call names: a posting its key, the asked requests and the recipients; a receipt its key, the answerer and the code
-pub data Deed : Type 0 where
-  post : Key → Ask → List Address → Deed
-  receipt : Key → Address → ℕ → Deed
-  release : Key → Deed
-
-abbrev pub key : Deed → Key
-key (post k a rs) = k
-key (receipt k w c) = k
-key (release k) = k
-
--- a call's arguments alone refuse it, with this number, or they name a deed
-abbrev pub Call : Type 0
-Call = ℕ ⊎ Deed
 
 -- the asked requests, and the recipients with their marks
 abbrev pub Row : Type 0
@@ -36,16 +21,23 @@ Rows = List (Key × Row)
 unfoldable pub make : Ask → List Address → Row
 make a rs = (a, sort byAddress (map (λ r. (r, blank)) rs))
 
+-- a receipt brings its answerer and its code
+abbrev pub Receipt : Type 0
+Receipt = Address × ℕ
+
+-- what a call names: a posting its key and its new row, a receipt its key and what it brings, a release its key
+abbrev pub Operation : Type 0
+Operation = theory.Operation Key Row Receipt
+
+-- a call's arguments alone refuse it, with this number, or they name an operation
+abbrev pub Call : Type 0
+Call = ℕ ⊎ Operation
+
 -- so many rows, and no free line
 abbrev pub full : ℕ → Bool
 full n = leb 32 n
 
--- ---- the answer, and what stands at the key behind the call
-
-abbrev pub entered : Row → Option Row → Bool → ℕ × Option Row
-entered r (some o) f = (22, some o)
-entered r none true = (23, none)
-entered r none false = (0, some r)
+-- ---- what a receipt makes of a row: its answer, and the marks at the answerer
 
 abbrev pub written : Option Mark → ℕ × Option Mark
 written none = (28, none)
@@ -62,38 +54,42 @@ abbrev pub mark : Address → Option Mark → List (Address × Mark) → List (A
 mark w none l = l
 mark w (some m) l = alter byAddress w (λ o. m) l
 
-abbrev pub received : Address → ℕ → Option Row → ℕ × Option Row
-received w c none = (26, none)
-received w c (some r) = (replied w c r .0, some (r .0, mark w (replied w c r .1) (r .1)))
+-- refused with its answer, or the row with the marks; nothing is counted
+abbrev pub marked : Address → Row → ℕ × Option Mark → ℕ ⊎ (Unit {0} × Row)
+marked w r (n, none) = inl n
+marked w r (n, some m) = inr (tt, (r .0, mark w (some m) (r .1)))
 
-abbrev pub released : Option Row → ℕ × Option Row
-released none = (26, none)
-released (some r) = (0, none)
+-- ---- the rules: rows by key, 22 where the key is held, 26 where no row has it, 23 where all 32 lines are held, and nothing counted
 
--- by the number of rows and what stands at the key
-abbrev pub act : Deed → ℕ → Option Row → ℕ × Option Row
-act (post k a rs) n o = entered (make a rs) o (full n)
-act (receipt k w c) n o = received w c o
-act (release k) n o = released o
+abbrev pub rules : theory.Rules Key Row Receipt ℕ (Unit {0})
+rules =
+    record {
+      cmp = byKey;
+      done = 0;
+      held = 22;
+      missing = 26;
+      gate = λ r n t. theory.lineFree 32 23 n;
+      patch = λ p r. marked (p .0) r (replied (p .0) (p .1) r);
+      zero = tt;
+      add = λ x t. tt;
+      enter = λ r. tt;
+      leave = λ r. tt;
+    }
 
-unfoldable pub board : Call → Rows → ℕ × Rows
-board = step key act byKey
+-- what a call answers and makes of the table's rows, which stand in key order
+unfoldable pub onTable : Call → Rows → ℕ × Rows
+onTable c s = let x = theory.onTable rules c (s, tt) in (x .0, x .1 .0)
 
 -- ---- calls that may change places
 
--- the free lines that a call may use
-abbrev pub lines : Deed → ℕ
-lines (post k a rs) = 1
-lines (receipt k w c) = 0
-lines (release k) = 0
-
-abbrev pub linesFor : Call → ℕ
-linesFor (inl n) = 0
-linesFor (inr d) = lines d
+-- receipts for one row from different answerers have nothing to do with each other
+abbrev pub OtherAnswerer : Receipt → Receipt → Type 0
+OtherAnswerer p q = p .0 ≢ q .0
 
 -- one names nothing, they name different messages, or they are receipts from different answerers
-pub data Apart : Call → Call → Type 0 where
-  refusedFirst : {n : ℕ} {c : Call} → Apart (inl n) c
-  refusedSecond : {n : ℕ} {c : Call} → Apart c (inl n)
-  messages : {a b : Deed} → key a ≢ key b → Apart (inr a) (inr b)
-  answerers : {k : Key} {v w : Address} {c d : ℕ} → v ≢ w → Apart (inr (receipt k v c)) (inr (receipt k w d))
+abbrev pub Apart : Call → Call → Type 0
+Apart = theory.Apart rules OtherAnswerer
+
+-- the free lines that a call may use
+abbrev pub linesFor : Call → ℕ
+linesFor = theory.linesFor rules

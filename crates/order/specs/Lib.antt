@@ -1,8 +1,4 @@
-pub mod Order
 pub mod Values
-pub mod Keyed
-pub mod Runs
-pub mod Machine
 pub mod Requests
 pub mod Calls
 pub mod Sheet

@@ -11,7 +11,7 @@ use Rattle.header.specs.Table.{address, stamp}
 use Rattle.header.specs.declared.Address.{Address as DeclaredAddress}
 use Rattle.header.specs.declared.Dtg.{Dtg}
 use Rattle.header.specs.declared.Stamp.{Stamp}
-use Rattle.order.specs.Order.{byNumber, _lex_, list, _or_, option, pull}
+use Rattle.calls.specs.Order.{byNumber, _lex_, list, _or_, option, pull}
 use Rattle.order.specs.declared.Comparison.{Comparison}
 use Rattle.order.specs.declared.Comparison.the-variants.{Less, Same, Greater}
 use Rattle.order.specs.declared.Key.{Key as DeclaredKey}

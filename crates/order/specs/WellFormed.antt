@@ -1,4 +1,4 @@
--- Rows that may stand on a board, for given legal keys and addresses.
+-- Rows that may stand in a table, for given legal keys and addresses.
 use mathlib.Core.Path.{_≡_}
 use mathlib.Core.Logic.{inl, inr}
 use mathlib.Core.List.{List, [], _∷_}
@@ -6,10 +6,11 @@ use mathlib.Core.Option.{Option, none, some}
 use Prim.Native.Nat.{_≤_}
 use lib.ListN.{length}
 use lib.Dec.{T}
+use Rattle.calls.specs.Keyed.{find, InOrder}
+use Rattle.calls.specs.Operations.{post, receipt, release}
 use Rattle.order.specs.Values.{Key, Address, byKey, byAddress}
-use Rattle.order.specs.Keyed.{find, InOrder}
 use Rattle.order.specs.Requests.{Mark, anyOf, WellMarked}
-use Rattle.order.specs.Calls.{Deed, post, receipt, release, Call, Row, Rows}
+use Rattle.order.specs.Calls.{Operation, Call, Row, Rows}
 
 module _ (LegalKey : Key → Type 0) (LegalAddress : Address → Type 0) where
   pub record FineRow (k : Key) (r : Row) : Type 0 where
@@ -33,12 +34,12 @@ module _ (LegalKey : Key → Type 0) (LegalAddress : Address → Type 0) where
   LegalAll [] = Unit {0}
   LegalAll (r ∷ rs) = LegalAddress r × LegalAll rs
 
-  -- what a posting names may make a row
-  abbrev pub LegalDeed : Deed → Type 0
-  LegalDeed (post k a rs) = LegalKey k × T (anyOf a) × (1 ≤ length rs) × (length rs ≤ 16) × LegalAll rs
-  LegalDeed (receipt k w c) = Unit {0}
-  LegalDeed (release k) = Unit {0}
+  -- a posting's row may stand
+  abbrev pub LegalOperation : Operation → Type 0
+  LegalOperation (post k r) = FineRow k r
+  LegalOperation (receipt k p) = Unit {0}
+  LegalOperation (release k) = Unit {0}
 
   abbrev pub LegalCall : Call → Type 0
   LegalCall (inl n) = Unit {0}
-  LegalCall (inr d) = LegalDeed d
+  LegalCall (inr d) = LegalOperation d

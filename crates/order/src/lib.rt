@@ -1,7 +1,7 @@
 // The key of a message, and the order of keys: which of two comes first.
 ghost use mathlib.Core.Path.{_≡_};
 ghost use Rattle.text.specs.Texts.{charsOf};
-ghost use Rattle.order.specs.Order.{then, byNumber, list, option};
+ghost use Rattle.calls.specs.Order.{then, byNumber, list, option};
 ghost use Rattle.order.specs.Values.{comparisonOf, optionOf, threeOf, dtgOf, momentOf, addressOf, keyOf, byMoment, byAddress, byKey};
 use header::Address;
 use header::Dtg;

@@ -1,4 +1,4 @@
--- The three calls: what the code names is what document 01 has the call name, so that the deed done is the call's. Assumes nothing.
+-- The three calls: what the code names is what document 01 has the call name, so that the operation done is the call's. Assumes nothing.
 use Prim.Native.Nat.{ℕ, zero, suc, _<_, _≤_}
 use mathlib.Core.Path.{_≡_, refl, ap, sym, _∙_, subst}
 use mathlib.Core.Bool.{Bool, true}
@@ -18,17 +18,18 @@ use Rattle.writer.proofs.Valid.{Valid}
 use Rattle.writer.proofs.Parts.{front-legal, blocks-legal}
 use Rattle.order.specs.Values.{addressOf, keyOf, keyFault}
 use Rattle.order.specs.Requests.{anyOf, askOf}
-use Rattle.order.specs.Calls.{Call, Deed, post, receipt, release}
+use Rattle.calls.specs.Operations.{post, receipt, release}
+use Rattle.order.specs.Calls.{Call, Operation, make}
 use Rattle.order.specs.declared.Key.{Key}
 use Rattle.table.specs.declared.Table.{Table}
 use Rattle.arguments.specs.Arguments.{Arguments, posting, receiving, releasing, hasBlock, blockAt, recipientsOf, postingKey, receiptKey, postingFault, receiptFault, named, callOf}
 use Rattle.arguments.proofs.Legal.{code-some}
 use Rattle.arguments.proofs.Names.{Posts, posts, answers, legal-at}
-use Rattle.deeds.specs.Acts.{Acted}
+use Rattle.transitions.specs.Acts.{Acted}
 use Rattle.pending.specs.Calls.{Did}
 
--- a call that the arguments refuse names no deed
-same-named : (f g : ℕ) (d e : Deed) → f ≡ g → (g ≡ 0 → d ≡ e) → named f d ≡ named g e
+-- a call that the arguments refuse names no operation
+same-named : (f g : ℕ) (d e : Operation) → f ≡ g → (g ≡ 0 → d ≡ e) → named f d ≡ named g e
 same-named f g d e i same = ap (λ (n : ℕ). named n d) i ∙ go g same
   where
     go : (n : ℕ) → (n ≡ 0 → d ≡ e) → named n d ≡ named n e
@@ -56,7 +57,7 @@ module _ (h : Header) (n count : ℕ) (b : Block) (is : hasBlock h n ≡ true �
     present : Posts h n count → h .front .recipients .present ≡ true
     present P = and-left (h .front .recipients .present) (leb 1 (h .front .recipients .addresses .count)) (P .addressed)
 
-    -- what is asked of the arguments of the deed
+    -- what is asked of the arguments of the operation
     pub post-asks : (f : ℕ) → f ≡ postingFault h n count → f ≡ 0 → (keyFault k ≡ 0) × (anyOf (askOf (b .times .requests .requests)) ≡ true) × (addresses 15 .check (h .front .recipients .addresses) ≡ 0)
     unfolding first
     post-asks f e z =
@@ -74,16 +75,16 @@ module _ (h : Header) (n count : ℕ) (b : Block) (is : hasBlock h n ≡ true �
         taken : (p : Bool) → p ≡ true → take (h .front .recipients .addresses .count) (h .front .recipients .addresses .list) ≡ pick p (take (h .front .recipients .addresses .count) (h .front .recipients .addresses .list)) []
         taken p e = rw e
 
-    pub post-did : (t t′ : Table) (f m : ℕ) → f ≡ postingFault h n count → Acted (named f (post (keyOf k) (askOf (b .times .requests .requests)) (map addressOf (take (h .front .recipients .addresses .count) (h .front .recipients .addresses .list))))) t m t′ → Did (posting h n count) t m t′
+    pub post-did : (t t′ : Table) (f m : ℕ) → f ≡ postingFault h n count → Acted (named f (post (keyOf k) (make (askOf (b .times .requests .requests)) (map addressOf (take (h .front .recipients .addresses .count) (h .front .recipients .addresses .list)))))) t m t′ → Did (posting h n count) t m t′
     unfolding callOf
     post-did t t′ f m e x = did (posting h n count) _ t t′ m (same-named f _ _ _ e named-so) x
       where
-        named-so : postingFault h n count ≡ 0 → post (keyOf k) (askOf (b .times .requests .requests)) (map addressOf (take (h .front .recipients .addresses .count) (h .front .recipients .addresses .list))) ≡ post (keyOf (postingKey h (blockAt h n))) (askOf (blockAt h n .times .requests .requests)) (map addressOf (recipientsOf h))
+        named-so : postingFault h n count ≡ 0 → _≡_ {A = Operation} (post (keyOf k) (make (askOf (b .times .requests .requests)) (map addressOf (take (h .front .recipients .addresses .count) (h .front .recipients .addresses .list))))) (post (keyOf (postingKey h (blockAt h n))) (make (askOf (blockAt h n .times .requests .requests)) (map addressOf (recipientsOf h))))
         named-so z =
             let P = posts h n count z in
             let i = block-is (P .valid) (P .block-there) in
             let same : k ≡ postingKey h (blockAt h n) = key ∙ ap (λ (y : Block). postingKey h y) i in
-            λ j. post (keyOf (same j)) (askOf (i j .times .requests .requests)) (map addressOf (recipients-are P j))
+            λ j. post (keyOf (same j)) (make (askOf (i j .times .requests .requests)) (map addressOf (recipients-are P j)))
 
   module _ (key : k ≡ receiptKey h b) where
     pub receipt-asks : (f : ℕ) → f ≡ receiptFault h n count → f ≡ 0 → 0 < b .response .response .compliance .code
@@ -91,13 +92,13 @@ module _ (h : Header) (n count : ℕ) (b : Block) (is : hasBlock h n ≡ true �
         let P = answers h n count (sym e ∙ z) in
         rw (block-is (P .valid) (P .block-there)) (code-some (blockAt h n) (legal-at h count (P .valid) n (P .block-there)) (P .response))
 
-    pub receipt-did : (t t′ : Table) (f m : ℕ) → f ≡ receiptFault h n count → Acted (named f (receipt (keyOf k) (addressOf (h .front .originator .address)) (b .response .response .compliance .code))) t m t′ → Did (receiving h n count) t m t′
+    pub receipt-did : (t t′ : Table) (f m : ℕ) → f ≡ receiptFault h n count → Acted (named f (receipt (keyOf k) (addressOf (h .front .originator .address), b .response .response .compliance .code))) t m t′ → Did (receiving h n count) t m t′
     unfolding callOf
     receipt-did t t′ f m e x = did (receiving h n count) _ t t′ m (same-named f _ _ _ e named-so) x
       where
-        named-so : receiptFault h n count ≡ 0 → receipt (keyOf k) (addressOf (h .front .originator .address)) (b .response .response .compliance .code) ≡ receipt (keyOf (receiptKey h (blockAt h n))) (addressOf (h .front .originator .address)) (blockAt h n .response .response .compliance .code)
+        named-so : receiptFault h n count ≡ 0 → _≡_ {A = Operation} (receipt (keyOf k) (addressOf (h .front .originator .address), b .response .response .compliance .code)) (receipt (keyOf (receiptKey h (blockAt h n))) (addressOf (h .front .originator .address), blockAt h n .response .response .compliance .code))
         named-so z =
             let P = answers h n count z in
             let i = block-is (P .valid) (P .block-there) in
             let same : k ≡ receiptKey h (blockAt h n) = key ∙ ap (λ (y : Block). receiptKey h y) i in
-            λ j. receipt (keyOf (same j)) (addressOf (h .front .originator .address)) (i j .response .response .compliance .code)
+            λ j. receipt (keyOf (same j)) (addressOf (h .front .originator .address), i j .response .response .compliance .code)

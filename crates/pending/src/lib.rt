@@ -1,5 +1,5 @@
 // Posting, receipt and release on the table of pending messages: what the arguments name and what they
-// alone say, and then the deed.
+// alone say, and then the operation.
 ghost use mathlib.Core.Path.{_≡_};
 ghost use Rattle.arguments.specs.Arguments.{posting, receiving, releasing};
 ghost use Rattle.arguments.specs.Told.{answerNo, answerPlace};
@@ -11,14 +11,14 @@ use arguments::check_receipt;
 use arguments::posting_key;
 use arguments::receipt_key;
 use bits::OctetSize;
-use deeds::TableAfter;
-use deeds::post_row;
-use deeds::release_row;
-use deeds::settle_row;
 use header::Header;
 use inspect::well::check_key;
 use order::Key;
 use table::Table;
+use transitions::TableAfter;
+use transitions::post_row;
+use transitions::release_row;
+use transitions::settle_row;
 
 // Posts a block of a message: a row for it, unless its key is held or no line is free.
 pub fn post(t: Table, h: Header, number: u32, count: OctetSize) -> TableAfter

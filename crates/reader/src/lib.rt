@@ -122,7 +122,7 @@ pub fn read(datagram: &[u8]) -> HeaderRead
     }
 }
 
-// The user data: the part of the datagram that follows the header, empty where the datagram is
+// The user data: what lies behind the header in the datagram itself, and nothing where the datagram is
 // refused.
 pub fn user_data(datagram: &[u8]) -> &[u8]
     ensures { λ r. ⌜ now r ≡ userData (now (datagram .entry)) ⌝ }

@@ -4,7 +4,7 @@ use Prim.Native.Nat.{ℕ}
 use mathlib.Core.Path.{_≡_, sym, _∙_}
 use mathlib.Core.List.{List}
 use lib.ListN.{length, take}
-use Rattle.bits.proofs.OctetBits.{AllOctets}
+use Rattle.bits.specs.Bits.{AllOctets}
 use Rattle.header.specs.Same.{Same}
 use Rattle.header.specs.declared.Header.{Header}
 use Rattle.reader.specs.Reading.{reading, accepted, userData}

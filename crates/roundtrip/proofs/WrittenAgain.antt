@@ -9,9 +9,8 @@ use lib.Seq.{take-at, length-take-le}
 use lib.Dec.{eqb}
 use borrow.Author.Tests.{le-leb, eqb-true}
 use native.Mathlib.Omega.{arith}
-use Rattle.bits.specs.Bits.{bitsOf, splice}
+use Rattle.bits.specs.Bits.{bitsOf, splice, AllOctets}
 use Rattle.bits.specs.Units.{fillBits, datagramLimit}
-use Rattle.bits.proofs.OctetBits.{AllOctets}
 use Rattle.bits.proofs.Packing.{packed}
 use Rattle.codec.specs.Codec.{first, flag, nothing, present, viewed, _thenBy_}
 use Rattle.codec.proofs.Lawful.{Accepted as Read}

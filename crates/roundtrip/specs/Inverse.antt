@@ -21,7 +21,7 @@ pub record WrittenAs (h : Header) (count : ℕ) (header out : List ℕ) : Type 0
   pub answer : writing h count (length out) ≡ done (length header)
   pub output : outputAfter h (writing h count (length out)) out ≡ header ++ drop (length header) out
 
--- a header is valid when it is accepted with some user data behind it
+-- document 01's "valid" of a header: there are user data behind which these octets are read as the whole header
 pub record ValidHeader (s : List ℕ) : Type 0 where
   pub behind : List ℕ
   pub header : Header

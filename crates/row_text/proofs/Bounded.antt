@@ -11,7 +11,7 @@ use native.Mathlib.Omega.{arith}
 use Rattle.codec.specs.Answer.{pick}
 use Rattle.codec.specs.Codec.{flag, first, present, same, tested, viewed, _thenBy_}
 use Rattle.codec.specs.Characters.{characters as legal}
-use Rattle.codec.specs.Lists.{some as any}
+use Rattle.codec.specs.Lists.{nonEmpty}
 use Rattle.codec.proofs.Bounds.{cells-legal}
 use Rattle.codec.proofs.Sequences.{first-zero}
 use Rattle.text.specs.Texts.{text, charsOf, noText}
@@ -65,7 +65,7 @@ characters-bounded (c ∷ l) = let h = characters-bounded l in let e = escaped-b
 text-bounded : (t : Text) → text 64 .check t ≡ 0 → length (charsOf t) ≤ 64
 unfolding text viewed
 text-bounded t h =
-    let m = cells-legal 0 64 64 4 (lit< tt) (tested any 4 (legal 64)) (t .chars, t .len) h .0 in
+    let m = cells-legal 0 64 64 4 (lit< tt) (tested nonEmpty 4 (legal 64)) (t .chars, t .len) h .0 in
     rw length-take (omega arith)
 
 -- where a legal address has no URN, its name is present

@@ -73,14 +73,14 @@ fn characters_length(t: Text) -> OctetSize
 {
     let chars = t.chars;
     let n = used(t.len, 64);
-    let mut size: usize = 0;
+    let mut size = OctetSize(0);
     let mut i: usize = 0;
     while i < n {
         let one = escaped_length(chars[i]);
-        size += one.0;
+        size = OctetSize(size.0 + one.0);
         i += 1;
     }
-    OctetSize(size)
+    size
 }
 
 fn put_characters(out: &mut [u8], at: OctetSize, t: Text) -> OctetSize

@@ -33,12 +33,12 @@ pub fn decimal_length(n: u32) -> OctetSize
     ensures { λ r. ⌜ (r .0 ≡ length (decimal n)) × (r .0 ≤ 10) ⌝ }
 {
     let mut rest = n;
-    let mut count: usize = 1;
+    let mut size = OctetSize(1);
     while 10 <= rest {
         rest /= 10;
-        count += 1;
+        size = OctetSize(size.0 + 1);
     }
-    OctetSize(count)
+    size
 }
 
 // The last digit is what a division by ten leaves, so the digits are put from the right, behind the

@@ -102,14 +102,14 @@ pub fn recipients_length(asked: Requests, list: [Recipient; 16], count: u32) -> 
     ensures { λ s. ⌜ (s .0 ≡ length (recipientLines (askOf asked) (map recipientOf (take count list)))) × (s .0 ≤ 3776) ⌝ }
 {
     let n = used(count, 16);
-    let mut size: usize = 0;
+    let mut size = OctetSize(0);
     let mut i: usize = 0;
     while i < n {
         let one = recipient_length(asked, list[i]);
-        size += one.0;
+        size = OctetSize(size.0 + one.0);
         i += 1;
     }
-    OctetSize(size)
+    size
 }
 
 pub fn put_recipients(

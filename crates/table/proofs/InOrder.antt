@@ -4,11 +4,12 @@ use mathlib.Core.Path.{_≡_, refl, sym, _∙_}
 use mathlib.Core.Bool.{true, false}
 use mathlib.Core.List.{List, [], _∷_, map}
 use mathlib.Core.Option.{none, some}
-use Rattle.order.specs.Order.{choose, NotGt}
-use Rattle.order.specs.Keyed.{find, InOrder}
+use Rattle.calls.specs.Order.{choose, NotGt}
+use Rattle.calls.specs.Keyed.{find, InOrder}
 use Rattle.order.specs.Values.{byAddress, byKey}
-use Rattle.order.proofs.Orders.{Order, cmp-same, cases, by-address, by-key}
-use Rattle.order.proofs.Keyed.{sorted, past-order, find-lt}
+use Rattle.calls.proofs.Orders.{Order, cmp-same, cases}
+use Rattle.order.proofs.Orders.{by-address, by-key}
+use Rattle.calls.proofs.Keyed.{sorted, past-order, find-lt}
 use Rattle.table.specs.Rows.{recipientOf, usedRecipients, rowOf, usedRows, see}
 use Rattle.table.specs.Search.{keysOf, addressesOf}
 use Rattle.table.specs.WellFormed.{increasing, rowFine, wellFormed}

@@ -9,10 +9,11 @@ use native.Mathlib.Numerals.{add-one}
 use native.Mathlib.Omega.{arith}
 use Rattle.header.specs.Rules.{all}
 use Rattle.header.specs.declared.Requests.{Requests}
-use Rattle.order.specs.Keyed.{InOrder}
+use Rattle.calls.specs.Keyed.{InOrder}
 use Rattle.order.specs.Values.{addressOf, Key, keyOf, byAddress, byKey, keyFault}
-use Rattle.order.proofs.Orders.{Order, by-address, by-key}
-use Rattle.order.proofs.Keyed.{sorted, put-in-order}
+use Rattle.calls.proofs.Orders.{Order}
+use Rattle.order.proofs.Orders.{by-address, by-key}
+use Rattle.calls.proofs.Keyed.{sorted, put-in-order}
 use Rattle.table.specs.Rows.{recipientOf, usedRecipients, rowOf, usedRows}
 use Rattle.table.specs.Search.{Stopped, keysOf, addressesOf}
 use Rattle.table.specs.WellFormed.{increasing, recipientFine, rowFine, wellFormed}

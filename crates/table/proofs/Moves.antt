@@ -7,9 +7,10 @@ use mathlib.Core.Option.{none, some}
 use lib.ListN.{take, drop, set}
 use native.Mathlib.Numerals.{add-one}
 use native.Mathlib.Omega.{arith}
-use Rattle.order.specs.Keyed.{put, alter}
+use Rattle.calls.specs.Keyed.{put, alter}
 use Rattle.order.specs.Values.{Key, byAddress, byKey}
-use Rattle.order.proofs.Orders.{Order, by-address}
+use Rattle.calls.proofs.Orders.{Order}
+use Rattle.order.proofs.Orders.{by-address}
 use Rattle.table.specs.Rows.{recipientOf, usedRecipients, rowOf, usedRows, see}
 use Rattle.table.specs.Search.{Stopped, keysOf, addressesOf}
 use Rattle.table.specs.declared.Recipient.{Recipient}

@@ -7,10 +7,11 @@ use mathlib.Core.Option.{none, some}
 use lib.ListN.{length, take, getD, length-map, length-take}
 use lib.Seq.{getD-take, length-take-le}
 use native.Mathlib.Omega.{arith}
-use Rattle.order.specs.Keyed.{find, InOrder}
+use Rattle.calls.specs.Keyed.{find, InOrder}
 use Rattle.order.specs.Values.{Address, Key, byAddress, byKey}
-use Rattle.order.proofs.Orders.{Order, by-address, by-key}
-use Rattle.order.proofs.Keyed.{sorted, find-lt}
+use Rattle.calls.proofs.Orders.{Order}
+use Rattle.order.proofs.Orders.{by-address, by-key}
+use Rattle.calls.proofs.Keyed.{sorted, find-lt}
 use Rattle.table.specs.Rows.{recipientOf, usedRecipients, rowOf, usedRows, see}
 use Rattle.table.specs.Search.{Stopped, keysOf, addressesOf}
 use Rattle.table.specs.WellFormed.{rowFine, wellFormed}

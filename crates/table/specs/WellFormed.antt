@@ -1,5 +1,6 @@
--- When a table is well formed, in document 01's words: at most 32 rows with legal keys and addresses, strictly in key order; 1 to 16 recipients, strictly in
--- order; something asked; codes only at asked requests and fitting them; where any code at a recipient is 2, no request is open there.
+-- Document 01's "well formed", for any table at all. `wellFormed` asks that the count of rows fits the 32 places, that each used row is fine by itself, and that the keys rise
+-- from row to row. `rowFine` asks for a legal key, a request that is asked, between 1 and 16 recipients whose addresses rise, and that each recipient is fine.
+-- `recipientFine` asks for a legal address and for codes that belong where they stand; a 2, which answers everything, leaves nothing open beside it.
 use Prim.Native.Nat.{ℕ, Ordering}
 use mathlib.Core.Bool.{Bool, true, false, not, _&&_, _||_}
 use mathlib.Core.List.{List, [], _∷_, map}
@@ -7,7 +8,7 @@ use lib.Dec.{leb, eqb}
 use Rattle.header.specs.Table.{address}
 use Rattle.header.specs.Rules.{_⇒_, all}
 use Rattle.header.specs.declared.Requests.{Requests}
-use Rattle.order.specs.Order.{choose}
+use Rattle.calls.specs.Order.{choose}
 use Rattle.order.specs.Values.{addressOf, keyOf, keyFault, byAddress, byKey}
 use Rattle.order.specs.Requests.{answeredBy}
 use Rattle.table.specs.Rows.{usedRecipients, usedRows}

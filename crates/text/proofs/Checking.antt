@@ -12,7 +12,7 @@ use native.Mathlib.Omega.{arith}
 use Rattle.codec.specs.Answer.{pick}
 use Rattle.codec.specs.Codec.{first, tested, viewed}
 use Rattle.codec.specs.Characters.{characters, legalCharacters}
-use Rattle.codec.specs.Lists.{some, cells}
+use Rattle.codec.specs.Lists.{nonEmpty, cells}
 use Rattle.text.specs.Texts.{text, charsOf}
 use Rattle.text.specs.declared.Text.{Text}
 
@@ -22,7 +22,7 @@ module _ (most : ℕ) (x : Text) (lx : length (x .chars) ≡ 64) where
   check-long h = rw (lx, lt-leb (x .len) most h)
 
   module _ (h : x .len ≤ most) where
-    check-by : (g b : Bool) → legalCharacters most (charsOf x) ≡ g → some (charsOf x) ≡ b → first (pick g 0 4) (pick b 0 4) ≡ text most .check x
+    check-by : (g b : Bool) → legalCharacters most (charsOf x) ≡ g → nonEmpty (charsOf x) ≡ b → first (pick g 0 4) (pick b 0 4) ≡ text most .check x
     unfolding text cells viewed tested characters
     check-by g b eg eb = rw (lx, le-leb (x .len) most h, eg, eb)
 
@@ -32,13 +32,13 @@ module _ (most : ℕ) (x : Text) (lx : length (x .chars) ≡ 64) where
 
     pub check-bad : legalCharacters most (charsOf x) ≡ false → 4 ≡ text most .check x
     unfolding first
-    check-bad e = check-by false (some (charsOf x)) e refl
+    check-bad e = check-by false (nonEmpty (charsOf x)) e refl
 
     pub check-good : 0 < x .len → legalCharacters most (charsOf x) ≡ true → 0 ≡ text most .check x
     unfolding first
     check-good k e = check-by true true e (go (x .len) (x .chars) k lx)
       where
-        go : (n : ℕ) (cs : List ℕ) → 0 < n → length cs ≡ 64 → some (take n cs) ≡ true
+        go : (n : ℕ) (cs : List ℕ) → 0 < n → length cs ≡ 64 → nonEmpty (take n cs) ≡ true
         go zero cs k l = absurd (omega arith)
         go (suc n) [] k l = absurd (omega arith)
         go (suc n) (c ∷ cs) k l = refl

@@ -12,7 +12,7 @@ use Rattle.bits.specs.declared.BitPlace.{BitPlace}
 use Rattle.codec.specs.Answer.{Answer, got, refused, next}
 use Rattle.codec.specs.Codec.{tested, viewed}
 use Rattle.codec.specs.Characters.{character, characters, readCharacters}
-use Rattle.codec.specs.Lists.{some, cells}
+use Rattle.codec.specs.Lists.{nonEmpty, cells}
 use Rattle.codec.specs.Refusals.{answer, faultNo}
 use Rattle.codec.specs.declared.Step.{Step}
 use Rattle.codec.specs.declared.Fault.{Fault}
@@ -88,7 +88,7 @@ module _ (bs : List Bool) (p most : ℕ) (chars : List ℕ) (n q : ℕ) (r : Rea
   ended-short f t h e =
       record { small = r .small; filled = r .filled; is = r .so-far ∙ ap (prepend (take n chars)) (one-more h) ∙ rw e }
 
-some-take : (chars : List ℕ) (n : ℕ) → 0 < n → 0 < length chars → some (take n chars) ≡ true
+some-take : (chars : List ℕ) (n : ℕ) → 0 < n → 0 < length chars → nonEmpty (take n chars) ≡ true
 some-take [] n h l = absurd (omega arith)
 some-take (c ∷ cs) zero h l = absurd (omega arith)
 some-take (c ∷ cs) (suc n) h l = refl

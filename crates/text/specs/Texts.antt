@@ -4,7 +4,7 @@ use mathlib.Core.List.{List}
 use lib.ListN.{take, replicate}
 use Rattle.codec.specs.Codec.{Codec, tested, shaped}
 use Rattle.codec.specs.Characters.{characters}
-use Rattle.codec.specs.Lists.{some, cells}
+use Rattle.codec.specs.Lists.{nonEmpty, cells}
 use Rattle.text.specs.declared.Text.{Text}
 
 -- no text: every cell 0
@@ -17,4 +17,4 @@ charsOf t = take (t .len) (t .chars)
 
 -- a text of 1 to n characters
 unfoldable pub text : ℕ → Codec Text
-text n = shaped (λ x. record { chars = x .0; len = x .1 }) (λ y. (y .chars, y .len)) (cells 0 64 n 4 (tested some 4 (characters n)))
+text n = shaped (λ x. record { chars = x .0; len = x .1 }) (λ y. (y .chars, y .len)) (cells 0 64 n 4 (tested nonEmpty 4 (characters n)))

@@ -13,18 +13,19 @@ use Rattle.header.specs.Rules.{ruleA, ruleB, ruleC, ruleD, ruleE, ruleF, ruleG,
 use Rattle.header.specs.Sizes.{shares, total, sizesRight}
 use Rattle.reader.specs.Reading.{readFill, settled, filled, judged, reading, behindHeader}
 use Rattle.writer.specs.Writing.{headerBits, headerOf, faultOf, answered, writing, outputAfter}
-use Rattle.order.specs.Order.{list, _or_, option}
+use Rattle.calls.specs.Order.{list, _or_, option}
 use Rattle.order.specs.Values.{byAddress, addressOf, byKey, optionOf, keyOf}
-use Rattle.order.specs.Keyed.{find, put, alter, without, sort}
+use Rattle.calls.specs.Keyed.{find, put, alter, without, sort}
 use Rattle.order.specs.Requests.{answeredBy, opens, openTo, write, settle, askOf}
-use Rattle.order.specs.Machine.{step}
-use Rattle.order.specs.Calls.{make, board}
-use Rattle.order.specs.Runs.{answers}
+use Rattle.calls.specs.Machine.{step}
+use Rattle.calls.specs.Operations as theory
+use Rattle.order.specs.Calls.{make, onTable}
+use Rattle.calls.specs.Runs.{answers}
 use Rattle.arguments.specs.Arguments.{blockAt, recipientsOf, postingFault, receiptFault, callOf}
 use Rattle.history.specs.Sheet as Sheet
 use Rattle.history.specs.Sheet.{sheet, refusal, rowWith, answersOf, entered, newAnswers, coded, codedAt, takenOut, sameList, sameAddress, sameExtension, sameKey}
 use Rattle.worked.specs.Cases.{AllHold, cases}
 
 pub worked : AllHold cases
-unfolding cases lowBits value bitsOf next readNumber number flag nothing _thenBy_ present viewed tested _closedBy_ readCharacters characters recurs listed cells optionalNumber text noNumber noOptionalText noAddress noAddresses noDtg noStamp noIdentity noFormat noHandling noRequests noTimes noResponse noReference noReferences noBlock optionalText unitName address addresses originator recipients information front date time dtg stamp identity optionalIdentity format codes handling optionalStamp optionalDtg requests optionalRequests times compliance response optionalResponse reference references optionalReferences block blocks wire ruleA ruleB ruleC ruleD ruleE ruleF ruleG ruleH ruleI all rulesKept shares total sizesRight readFill settled filled judged reading behindHeader first writeCharacters octets headerBits headerOf faultOf answered writing outputAfter answers board step find put alter sort without byKey byAddress list _or_ option keyOf addressOf optionOf askOf blockAt recipientsOf postingFault receiptFault callOf make settle openTo opens write answeredBy sheet refusal rowWith answersOf entered newAnswers coded codedAt Sheet.answered takenOut sameList sameAddress sameExtension sameKey
+unfolding cases lowBits value bitsOf next readNumber number flag nothing _thenBy_ present viewed tested _closedBy_ readCharacters characters recurs listed cells optionalNumber text noNumber noOptionalText noAddress noAddresses noDtg noStamp noIdentity noFormat noHandling noRequests noTimes noResponse noReference noReferences noBlock optionalText unitName address addresses originator recipients information front date time dtg stamp identity optionalIdentity format codes handling optionalStamp optionalDtg requests optionalRequests times compliance response optionalResponse reference references optionalReferences block blocks wire ruleA ruleB ruleC ruleD ruleE ruleF ruleG ruleH ruleI all rulesKept shares total sizesRight readFill settled filled judged reading behindHeader first writeCharacters octets headerBits headerOf faultOf answered writing outputAfter answers onTable theory.onTable step find put alter sort without byKey byAddress list _or_ option keyOf addressOf optionOf askOf blockAt recipientsOf postingFault receiptFault callOf make settle openTo opens write answeredBy sheet refusal rowWith answersOf entered newAnswers coded codedAt Sheet.answered takenOut sameList sameAddress sameExtension sameKey
 worked = ((refl, refl), ((refl, refl), ((refl, refl), ((refl, refl), ((refl, refl), ((refl, refl), ((refl, refl), ((refl, refl), ((refl, refl), ((refl, refl), ((refl, refl), ((refl, refl), ((refl, refl), ((refl, refl), ((refl, refl), tt)))))))))))))))

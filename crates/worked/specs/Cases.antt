@@ -12,8 +12,8 @@ use Rattle.header.specs.declared.Codes.{Codes}
 use Rattle.header.specs.declared.Stamp.{Stamp}
 use Rattle.header.specs.declared.Header.{Header}
 use Rattle.reader.specs.Reading.{Reading, accepted, rejected, reading, userData}
-use Rattle.order.specs.Calls.{board}
-use Rattle.order.specs.Runs.{answers}
+use Rattle.order.specs.Calls.{onTable}
+use Rattle.calls.specs.Runs.{answers}
 use Rattle.arguments.specs.Arguments.{Arguments, posting, receiving, callOf}
 use Rattle.history.specs.Sheet.{sheet}
 use Rattle.writer.specs.Writing as Writing
@@ -30,7 +30,7 @@ pub data Case : Type 0 where
 abbrev pub Holds : Case → Type 0
 Holds (reads s gives behind) = (reading s ≡ gives) × (userData s ≡ behind)
 Holds (writes h count out gives after) = (writing h count (length out) ≡ gives) × (outputAfter h (writing h count (length out)) out ≡ after)
-Holds (plays calls numbers) = (answers (λ x. board (callOf x)) [] calls ≡ numbers) × (answers sheet [] calls ≡ numbers)
+Holds (plays calls numbers) = (answers (λ x. onTable (callOf x)) [] calls ≡ numbers) × (answers sheet [] calls ≡ numbers)
 
 abbrev pub AllHold : List Case → Type 0
 AllHold [] = Unit {0}

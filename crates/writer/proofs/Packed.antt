@@ -5,9 +5,8 @@ use mathlib.Core.Bool.{Bool, false}
 use mathlib.Core.List.{List, _∷_, _++_}
 use lib.ListN.{length, drop, replicate, length-append}
 use native.Mathlib.Omega.{arith}
-use Rattle.bits.specs.Bits.{lowBits, bitsOf, splice}
+use Rattle.bits.specs.Bits.{lowBits, bitsOf, splice, AllOctets}
 use Rattle.bits.specs.Units.{fillBits}
-use Rattle.bits.proofs.OctetBits.{AllOctets}
 use Rattle.bits.proofs.Splices.{splice-splice}
 use Rattle.bits.proofs.Packing.{packed}
 use Rattle.codec.specs.Writes.{Writes}

@@ -25,6 +25,12 @@ unfolding optionalNumber viewed _thenBy_ flag present number nothing
 size-ends true n = refl
 size-ends false n = refl
 
+-- 17 at most
+pub size-short : (b : Bool) (n : ℕ) → maybe 16 0 65535 .size (record { present = b; value = n }) ≤ 17
+unfolding optionalNumber viewed _thenBy_ flag present number nothing
+size-short true n = omega arith
+size-short false n = omega arith
+
 module _ (h : Header) where
   pub ends-alike : (n : ℕ) → wire .size (wireOf h n) ≡ fieldsEnd h
   unfolding wire viewed _thenBy_

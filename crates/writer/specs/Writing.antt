@@ -48,7 +48,7 @@ faultOf h count =
     (first (pick (rulesKept h) 0 8)
     (first (pick (sizesRight (h .blocks) count) 0 10) (pick (leb (headerSize h + count) datagramLimit) 0 12)))
 
--- a record is valid, with a count of user data, when none of these refuses it
+-- document 01's "valid" of a record with so many octets of user data: there is no such refusal. (Room in an output, 11, is no matter of the record.)
 abbrev pub ValidRecord : Header → ℕ → Type 0
 ValidRecord h count = faultOf h count ≡ 0
 

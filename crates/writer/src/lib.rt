@@ -4,14 +4,12 @@ ghost use lib.ListN.{length};
 ghost use Rattle.codec.specs.Refusals.{checkNo, faultNo};
 ghost use Rattle.header.specs.Rules.{rulesKept};
 ghost use Rattle.header.specs.Sizes.{sizesRight};
-ghost use Rattle.header.specs.Table.{blocks};
-ghost use Rattle.writer.specs.Writing.{fieldsFault, answered, rejected, checking, writing, outputAfter, told};
+ghost use Rattle.writer.specs.Writing.{fieldsFault, fieldsEnd, answered, rejected, checking, writing, outputAfter, told};
 use crate::survey::Survey;
 use bits::BitPlace;
 use bits::OctetSize;
 use codec::Check;
 use codec::Fault;
-use codec::earlier;
 use header::Header;
 
 pub mod survey;
@@ -40,22 +38,17 @@ fn refused_by(fields: Check) -> Written
     }
 }
 
-// Every field, in the order of the table; where none is at fault, what the blocks show besides.
+// Every field, in the order of the table; where none is at fault, what they show besides.
 fn survey_record(h: Header, count: OctetSize) -> Survey
-    ensures { λ r. ⌜ (checkNo (r .fault) ≡ fieldsFault h) × (fieldsFault h ≡ 0 → (r .kept ≡ rulesKept h) × (r .right ≡ sizesRight (h .blocks) (count .0)) × (r .end .0 ≡ blocks .size (h .blocks))) ⌝ }
+    ensures { λ r. ⌜ (checkNo (r .fault) ≡ fieldsFault h) × (fieldsFault h ≡ 0 → (r .kept ≡ rulesKept h) × (r .right ≡ sizesRight (h .blocks) (count .0)) × (r .end .0 ≡ fieldsEnd h)) ⌝ }
 {
-    let x = rules::rule::setting_of(h);
-    let survey = survey::survey_blocks(x, h.blocks, count);
     let front = checker::front::check_front(h.front);
-    let blocks = survey.fault;
-    let fault = earlier(front, blocks);
-    let end = survey.end;
-    Survey {
-        fault: fault,
-        kept: survey.kept,
-        right: survey.right,
-        end: end,
-    }
+    let Check::Fine = front else {
+        return survey::broken_off(front);
+    };
+    let x = rules::rule::setting_of(h);
+    let at = wire::blocks_place(h);
+    survey::survey_blocks(x, h.blocks, count, at)
 }
 
 // Whether a record is valid with so many octets of user data: the fields, then the rules (8), the
@@ -76,8 +69,7 @@ pub fn check(h: Header, count: OctetSize) -> Written
     if !right {
         return refusal(Fault::Size);
     }
-    let end = wire::fields_end(h, survey.end);
-    let size = bits::whole_octets(end);
+    let size = bits::whole_octets(survey.end);
     if 65507 - size.0 < count.0 {
         return refusal(Fault::TooLong);
     }

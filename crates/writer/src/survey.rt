@@ -27,16 +27,16 @@ use rules::sizes::owns_rightly;
 use rules::sizes::share;
 
 // What the blocks so far show: they keep the rules; each owns what it may; the data octets that they
-// leave; the place behind them, where the first begins at 0.
+// leave; the place behind them.
 pub struct Found {
     pub kept: bool,
     pub right: bool,
-    pub left: usize,
+    pub left: OctetSize,
     pub end: BitPlace,
 }
 
-// What all blocks show: the first fault of a field; where there is none, whether the rules are kept,
-// whether the sizes are right, and the place behind the blocks, where the first begins at 0.
+// What all fields show: the first fault of one; where there is none, whether the rules are kept,
+// whether the sizes are right, and the place behind the blocks.
 pub struct Survey {
     pub fault: Check,
     pub kept: bool,
@@ -45,23 +45,23 @@ pub struct Survey {
 }
 
 // What n octets leave of some; none where they are too few.
-fn rest(left: usize, n: usize) -> usize
-    ensures { λ r. ⌜ r ≡ left - n ⌝ }
+fn rest(left: OctetSize, n: OctetSize) -> OctetSize
+    ensures { λ r. ⌜ r .0 ≡ left .0 - n .0 ⌝ }
 {
-    if left < n {
-        return 0;
+    if left.0 < n.0 {
+        return OctetSize(0);
     }
-    left - n
+    OctetSize(left.0 - n.0)
 }
 
 // A legal block behind those that were looked at.
-fn look(f: Found, x: Setting, b: Block, alone: usize) -> Found
+fn look(f: Found, x: Setting, b: Block, alone: OctetSize) -> Found
     requires { ⌜ Placed (f .end .0) (1 + block .size b) × (block .check b ≡ 0) ⌝ }
-    ensures { λ r. ⌜ (r .kept ≡ f .kept && all (λ rule. rule x b) rules) × (r .right ≡ (f .right && leb (pick (b .handling .size .present) (b .handling .size .value) alone) (f .left)) && owns (b, pick (b .handling .size .present) (b .handling .size .value) alone)) × (r .left ≡ f .left - pick (b .handling .size .present) (b .handling .size .value) alone) × (r .end .0 ≡ (f .end .0 + 1) + block .size b) ⌝ }
+    ensures { λ r. ⌜ (r .kept ≡ f .kept && all (λ rule. rule x b) rules) × (r .right ≡ (f .right && leb (pick (b .handling .size .present) (b .handling .size .value) (alone .0)) (f .left .0)) && owns (b, pick (b .handling .size .present) (b .handling .size .value) (alone .0))) × (r .left .0 ≡ f .left .0 - pick (b .handling .size .present) (b .handling .size .value) (alone .0)) × (r .end .0 ≡ (f .end .0 + 1) + block .size b) ⌝ }
 {
     let kept = both(f.kept, keeps(x, b));
     let n = share(b, alone);
-    let fits = both(f.right, n <= f.left);
+    let fits = both(f.right, n.0 <= f.left.0);
     let right = both(fits, owns_rightly(b, n));
     let left = rest(f.left, n);
     let behind = end_flag(f.end);
@@ -75,7 +75,7 @@ fn look(f: Found, x: Setting, b: Block, alone: usize) -> Found
 }
 
 // The survey that a fault ends.
-fn broken_off(fault: Check) -> Survey
+pub fn broken_off(fault: Check) -> Survey
     ensures { λ r. ⌜ r .fault ≡ fault ⌝ }
 {
     Survey {
@@ -88,9 +88,9 @@ fn broken_off(fault: Check) -> Survey
 
 // The survey of legal blocks, which have taken all the data octets or not.
 fn complete(f: Found) -> Survey
-    ensures { λ r. ⌜ (checkNo (r .fault) ≡ 0) × (r .kept ≡ f .kept) × (r .right ≡ f .right && eqb (f .left) 0) × (r .end ≡ f .end) ⌝ }
+    ensures { λ r. ⌜ (checkNo (r .fault) ≡ 0) × (r .kept ≡ f .kept) × (r .right ≡ f .right && eqb (f .left .0) 0) × (r .end ≡ f .end) ⌝ }
 {
-    let right = both(f.right, f.left == 0);
+    let right = both(f.right, f.left.0 == 0);
     let end = f.end;
     Survey {
         fault: Check::Fine,
@@ -100,9 +100,11 @@ fn complete(f: Found) -> Survey
     }
 }
 
-// 1 to 16 blocks in a setting, with so many octets of user data.
-pub fn survey_blocks(x: Setting, g: Blocks, octets: OctetSize) -> Survey
-    ensures { λ r. ⌜ (checkNo (r .fault) ≡ blocks .check g) × (blocks .check g ≡ 0 → (r .kept ≡ all (λ b. all (λ rule. rule x b) rules) (usedBlocks g)) × (r .right ≡ sizesRight g (octets .0)) × (r .end .0 ≡ blocks .size g)) ⌝ }
+// 1 to 16 blocks in a setting, with so many octets of user data, from a place on that leaves room for
+// the longest, 16 times 3,316 bits with their recurrence bits.
+pub fn survey_blocks(x: Setting, g: Blocks, octets: OctetSize, at: BitPlace) -> Survey
+    requires { ⌜ Placed (at .0) 53056 ⌝ }
+    ensures { λ r. ⌜ (checkNo (r .fault) ≡ blocks .check g) × (blocks .check g ≡ 0 → (r .kept ≡ all (λ b. all (λ rule. rule x b) rules) (usedBlocks g)) × (r .right ≡ sizesRight g (octets .0)) × (r .end .0 ≡ at .0 + blocks .size g)) ⌝ }
 {
     let list = g.list;
     let count = g.count as usize;
@@ -112,12 +114,12 @@ pub fn survey_blocks(x: Setting, g: Blocks, octets: OctetSize) -> Survey
     if count == 0 {
         return broken_off(Check::Bad(Fault::Count));
     }
-    let alone = alone_share(count, octets.0);
+    let alone = alone_share(count, octets);
     let mut found = Found {
         kept: true,
         right: true,
-        left: octets.0,
-        end: BitPlace(0),
+        left: octets,
+        end: at,
     };
     let mut i: usize = 0;
     while i < count {

@@ -2,12 +2,12 @@
 ghost use mathlib.Core.Path.{_≡_};
 ghost use mathlib.Core.List.{_++_};
 ghost use mathlib.Core.Bool.{false};
-ghost use Prim.Native.Nat.{_≤_, _*_};
+ghost use Prim.Native.Nat.{_+_, _≤_, _*_};
 ghost use lib.ListN.{length, drop, replicate};
 ghost use Rattle.bits.specs.Bits.{bitsOf, splice};
 ghost use Rattle.bits.specs.Units.{fillBits, wholeOctets};
-ghost use Rattle.codec.specs.Writes.{Room, Writes};
-ghost use Rattle.header.specs.Table.{blocks, wire};
+ghost use Rattle.codec.specs.Writes.{Placed, Room, Writes};
+ghost use Rattle.header.specs.Table.{front, blocks, wire};
 ghost use Rattle.writer.specs.Writing.{fieldsFault, fieldsEnd, headerSize, headerOf};
 use bits::BitPlace;
 use bits::OctetSize;
@@ -18,17 +18,17 @@ use optional::OptionalNumber;
 use optional::end_optional;
 use optional::write_optional;
 
-// The place behind the fields of a legal record, whose blocks end at a place where they begin at 0: the
-// fields before the blocks have as many bits behind them.
-pub fn fields_end(h: Header, end: BitPlace) -> BitPlace
-    requires { ⌜ (fieldsFault h ≡ 0) × (end .0 ≡ blocks .size (h .blocks)) ⌝ }
-    ensures { λ r. ⌜ r .0 ≡ fieldsEnd h ⌝ }
+// The place where the blocks of a record begin, whose fields before them are legal: the blocks end where
+// all fields do, and there is room in a datagram for the longest.
+pub fn blocks_place(h: Header) -> BitPlace
+    requires { ⌜ front .check (h .front) ≡ 0 ⌝ }
+    ensures { λ r. ⌜ (r .0 + blocks .size (h .blocks) ≡ fieldsEnd h) × Placed (r .0) 53056 ⌝ }
 {
     let size = OptionalNumber {
         present: h.sized,
         value: 0,
     };
-    let at = ends::front::end_front(end, h.front);
+    let at = ends::front::end_front(BitPlace(0), h.front);
     end_optional(at, HEADER_SIZE, size)
 }
 

@@ -64,6 +64,7 @@ fn options() -> Option<Options> {
 /// All comparisons with one seed. Gives back the counts.
 fn compare_with(seed: u64, inputs: u64, tally: Tally) -> Result<Tally, String> {
     println!("seed {seed}: {inputs} inputs, {PROGRAMS} inputs of pending_list");
+    println!("  the same again: compare --seed {seed} --inputs {inputs}");
     let mut run = Run::new(seed, tally);
     let mut play = || {
         for _ in 0..PROGRAMS {

@@ -31,7 +31,7 @@ pub fn read(datagram: &[u8]) -> Result<HeaderRead, Refusal> {
     Ok(HeaderRead { header: answer.header, length: answer.length })
 }
 
-/// The part of the datagram that follows the header; empty where the datagram is refused.
+/// What lies behind the header, as a part of the datagram itself; nothing where the datagram is refused.
 pub fn user_data(datagram: &[u8]) -> &[u8] {
     // SAFETY: as in `read`.
     let start = unsafe { raw::pruvelaccio_data_start(datagram.as_ptr(), datagram.len()) };

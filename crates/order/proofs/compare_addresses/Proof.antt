@@ -1,6 +1,6 @@
 -- `order::compare_addresses` meets its contract. Assumes nothing.
 use borrow.Author.Needs.{needs}
-use Rattle.order.specs.Order.{_or_}
+use Rattle.calls.specs.Order.{_or_}
 use Rattle.order.specs.Values.{comparisonOf, addressOf, byAddress}
 use Rattle.order.proofs.compare_addresses.Statement.{statement}
 use Rattle.order.proofs.compare_addresses.Tie as tie

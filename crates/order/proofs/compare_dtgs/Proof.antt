@@ -1,7 +1,7 @@
 -- `order::compare_dtgs` meets its contract. Assumes nothing.
 use borrow.Author.Needs.{needs}
-use Rattle.order.specs.Order.{list}
-use Rattle.order.proofs.Orders.{then-assoc}
+use Rattle.calls.specs.Order.{list}
+use Rattle.calls.proofs.Orders.{then-assoc}
 use Rattle.order.proofs.compare_dtgs.Statement.{statement}
 use Rattle.order.proofs.compare_dtgs.Tie as tie
 

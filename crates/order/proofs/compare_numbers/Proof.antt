@@ -2,7 +2,7 @@
 use mathlib.Core.Path.{sym}
 use native.Mathlib.Omega.{arith}
 use Rattle.order.specs.Values.{comparisonOf}
-use Rattle.order.proofs.Orders.{lt→compare, gt→compare, eq→compare}
+use Rattle.calls.proofs.Orders.{lt→compare, gt→compare, eq→compare}
 use Rattle.order.proofs.compare_numbers.Statement.{statement}
 use Rattle.order.proofs.compare_numbers.Tie as tie
 

@@ -1,6 +1,6 @@
 -- `order::compare_optionals` meets its contract. Assumes nothing.
 use borrow.Author.Needs.{needs}
-use Rattle.order.specs.Order.{option}
+use Rattle.calls.specs.Order.{option}
 use Rattle.order.specs.Values.{comparisonOf, optionOf}
 use Rattle.order.proofs.compare_optionals.Statement.{statement}
 use Rattle.order.proofs.compare_optionals.Tie as tie

@@ -1,7 +1,7 @@
 -- `order::compare_threes` meets its contract. Assumes nothing.
 use borrow.Author.Needs.{needs}
-use Rattle.order.specs.Order.{list}
-use Rattle.order.proofs.Orders.{then-end}
+use Rattle.calls.specs.Order.{list}
+use Rattle.calls.proofs.Orders.{then-end}
 use Rattle.order.proofs.compare_threes.Statement.{statement}
 use Rattle.order.proofs.compare_threes.Tie as tie
 

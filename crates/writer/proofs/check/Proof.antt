@@ -30,34 +30,27 @@ returns-3 c =
     let f = m .before .survey-record .ensures .1 (fine m) in
     c .refusal2 .ensures ∙ sizes-wrong (m .before .before .args .h) (m .before .before .args .count .0) (fine m) (sym (f .0) ∙ not-false _ (c .before .before .if1 .left)) (sym (f .1) ∙ not-true _ (c .before .if2 .taken))
 
-fields-end-requires : tie.Need-fields-end-requires
-fields-end-requires c κs =
-    let m = c .before .before .before in
-    (fine m, m .before .survey-record .ensures .1 (fine m) .2)
-
 sub-if3 : tie.Need-sub-if3
 sub-if3 c =
-    let m = c .before .before .before .before .before .before in
-    omega (arith, size-bounded (m .before .before .args .h) (fine m), c .before .whole-octets .ensures, c .before .before .fields-end .ensures)
+    let m = c .before .before .before .before .before in
+    omega (arith, size-bounded (m .before .before .args .h) (fine m), c .before .whole-octets .ensures, m .before .survey-record .ensures .1 (fine m) .2)
 
 returns-4 : tie.Need-returns-4
 returns-4 c =
-    let m = c .before .before .before .before .before .before .before .before .before in
+    let m = c .before .before .before .before .before .before .before .before in
     let f = m .before .survey-record .ensures .1 (fine m) in
-    let e = c .before .before .before .before .before .fields-end .ensures in
-    let o = rw e at (c .before .before .before .before .whole-octets .ensures) in
+    let o = rw (f .2) at (c .before .before .before .before .whole-octets .ensures) in
     c .refusal3 .ensures
-    ∙ too-long (m .before .before .args .h) (m .before .before .args .count .0) (fine m) (sym (f .0) ∙ not-false _ (c .before .before .before .before .before .before .before .if1 .left)) (sym (f .1) ∙ not-false _ (c .before .before .before .before .before .before .if2 .left)) (omega (arith, o, size-bounded (m .before .before .args .h) (fine m)))
+    ∙ too-long (m .before .before .args .h) (m .before .before .args .count .0) (fine m) (sym (f .0) ∙ not-false _ (c .before .before .before .before .before .before .if1 .left)) (sym (f .1) ∙ not-false _ (c .before .before .before .before .before .if2 .left)) (omega (arith, o, size-bounded (m .before .before .args .h) (fine m)))
 
 returns-5 : tie.Need-returns-5
 unfolding told
 returns-5 c =
-    let m = c .before .before .before .before .before .before .before .before in
+    let m = c .before .before .before .before .before .before .before in
     let f = m .before .survey-record .ensures .1 (fine m) in
-    let e = c .before .before .before .before .fields-end .ensures in
-    let o = rw e at (c .before .before .before .whole-octets .ensures) in
+    let o = rw (f .2) at (c .before .before .before .whole-octets .ensures) in
     ap done o
-    ∙ all-right (m .before .before .args .h) (m .before .before .args .count .0) (fine m) (sym (f .0) ∙ not-false _ (c .before .before .before .before .before .before .if1 .left)) (sym (f .1) ∙ not-false _ (c .before .before .before .before .before .if2 .left)) (omega (arith, o, size-bounded (m .before .before .args .h) (fine m)))
+    ∙ all-right (m .before .before .args .h) (m .before .before .args .count .0) (fine m) (sym (f .0) ∙ not-false _ (c .before .before .before .before .before .if1 .left)) (sym (f .1) ∙ not-false _ (c .before .before .before .before .if2 .left)) (omega (arith, o, size-bounded (m .before .before .args .h) (fine m)))
 
 pub check-spec : {M : Type 1} → statement M
-check-spec = tie.close (tie.spec (λ c κs. search needs) (λ c. search needs) (λ c. search needs) (λ c κs. search needs) returns (λ c κs. search needs) returns-2 (λ c κs. search needs) returns-3 fields-end-requires (λ c κs. search needs) sub-if3 (λ c κs. search needs) returns-4 returns-5)
+check-spec = tie.close (tie.spec (λ c κs. search needs) (λ c. search needs) (λ c. search needs) (λ c κs. search needs) returns (λ c κs. search needs) returns-2 (λ c κs. search needs) returns-3 (λ c κs. search needs) sub-if3 (λ c κs. search needs) returns-4 returns-5)

@@ -7,7 +7,7 @@ pub fn characters(t: &Text) -> &[u8] {
     &t.chars[..(t.len as usize).min(t.chars.len())]
 }
 
-/// URNs by number, then names by character, a shorter beginning first.
+/// All URNs come before all names; URNs go by their number, names as lists of characters do.
 pub fn by_address(a: &Address, b: &Address) -> Ordering {
     match (a.urn.present, b.urn.present) {
         (true, true) => a.urn.value.cmp(&b.urn.value),

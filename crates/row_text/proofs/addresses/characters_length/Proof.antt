@@ -10,7 +10,7 @@ use Rattle.row_text.proofs.addresses.characters_length.Statement.{state
 use Rattle.row_text.proofs.addresses.characters_length.Tie as tie
 
 abbrev Inv-loop : tie.InvT-loop
-Inv-loop chars n size₀ i₀ size i = Measured escaped chars n 3 i size
+Inv-loop chars n size₀ i₀ size i = Measured escaped chars n 3 i (size .0)
 
 abbrev μ-loop : tie.MeasureT-loop
 μ-loop chars n size₀ i₀ size i = n - i
@@ -19,7 +19,7 @@ loop-holds : tie.Need-loop-holds Inv-loop μ-loop
 loop-holds c = measured-none escaped _ _ 3
 
 loop-again : tie.Need-loop-again Inv-loop μ-loop
-loop-again c = measured-more _ _ _ _ _ _ (c .before .before .before .loop .inv) 0 64 (search needs) (search needs) (search needs) _ (c .before .escaped-length .ensures .0) (c .before .escaped-length .ensures .1)
+loop-again c = measured-more _ _ _ _ _ _ (c .before .before .before .before .loop .inv) 0 64 (search needs) (search needs) (search needs) _ (c .before .before .escaped-length .ensures .0) (c .before .before .escaped-length .ensures .1)
 
 returns : tie.Need-returns Inv-loop μ-loop
 returns c = let e = ap length (text-lines (c .before .before .before .before .args .t) (c .before .before .used .result) (search needs) (search needs)) in let m = measured-all _ _ _ _ _ _ (c .before .loop .inv) (search needs) in search needs

@@ -10,7 +10,7 @@ use Rattle.row_text.proofs.recipients.recipients_length.Statement.{stat
 use Rattle.row_text.proofs.recipients.recipients_length.Tie as tie
 
 abbrev Inv-loop : tie.InvT-loop
-Inv-loop asked count list n size₀ i₀ size i = Measured (lineOf asked) list n 236 i size
+Inv-loop asked count list n size₀ i₀ size i = Measured (lineOf asked) list n 236 i (size .0)
 
 abbrev μ-loop : tie.MeasureT-loop
 μ-loop asked count list n size₀ i₀ size i = n - i
@@ -19,7 +19,7 @@ loop-holds : tie.Need-loop-holds Inv-loop μ-loop
 loop-holds c = measured-none (lineOf _) _ _ 236
 
 loop-again : tie.Need-loop-again Inv-loop μ-loop
-loop-again c = measured-more _ _ _ _ _ _ (c .before .before .before .before .loop .inv) _ 16 (search needs) (search needs) (search needs) _ (c .before .recipient-length .ensures .0) (c .before .recipient-length .ensures .1)
+loop-again c = measured-more _ _ _ _ _ _ (c .before .before .before .before .before .loop .inv) _ 16 (search needs) (search needs) (search needs) _ (c .before .before .recipient-length .ensures .0) (c .before .before .recipient-length .ensures .1)
 
 returns : tie.Need-returns Inv-loop μ-loop
 returns c = let e = ap length (line-lines (c .before .before .before .args .asked) (c .before .before .before .args .t2) (c .before .before .before .args .count) (c .before .before .used .result) (search needs) (search needs)) in let m = measured-all _ _ _ _ _ _ (c .before .loop .inv) (search needs) in search needs

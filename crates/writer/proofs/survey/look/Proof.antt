@@ -16,18 +16,18 @@ share-right : (before fits owned after : Bool) (n m left : ℕ) (b : Block) → 
 share-right before fits owned after n m left b e f o h = e ∙ ap₂ _&&_ (f ∙ ap (λ (k : ℕ). before && leb k left) h) (o ∙ ap (λ (k : ℕ). owns (b, k)) h)
 
 end-flag-requires : tie.Need-end-flag-requires
-end-flag-requires c κs = omega (arith, c .before .before .before .before .before .before .before .before .pre .0)
+end-flag-requires c κs = omega (arith, c .before .before .before .before .before .before .before .before .before .pre .0)
 
 end-block-requires : tie.Need-end-block-requires
-end-block-requires c κs = let p = c .before .before .before .before .before .before .before .before .before .pre in (omega (arith, p .0, c .end-flag .ensures), p .1)
+end-block-requires c κs = let p = c .before .before .before .before .before .before .before .before .before .before .pre in (omega (arith, p .0, c .end-flag .ensures), p .1)
 
 returns : tie.Need-returns
 returns c =
-    let s = c .before .before .before .before .before .before .before .before .before .before .args in
-    let n = c .before .before .before .before .before .before .before .share .ensures in (
-      c .before .before .before .before .before .before .before .before .both .ensures ∙ ap (λ (k : Bool). s .f .kept && k) (c .before .before .before .before .before .before .before .before .before .keeps .ensures),
-      share-right (s .f .right) _ _ _ _ _ (s .f .left) (s .b) (c .before .before .before .both3 .ensures) (c .before .before .before .before .before .both2 .ensures) (c .before .before .before .before .owns-rightly .ensures) n,
-      c .before .before .rest .ensures ∙ ap (λ (k : ℕ). s .f .left - k) n,
+    let s = c .before .before .before .before .before .before .before .before .before .before .before .args in
+    let n = c .before .before .before .before .before .before .before .before .share .ensures in (
+      c .before .before .before .before .before .before .before .before .before .both .ensures ∙ ap (λ (k : Bool). s .f .kept && k) (c .before .before .before .before .before .before .before .before .before .before .keeps .ensures),
+      share-right (s .f .right) _ _ _ _ _ (s .f .left .0) (s .b) (c .before .before .before .both3 .ensures) (c .before .before .before .before .before .both2 .ensures) (c .before .before .before .before .owns-rightly .ensures) n,
+      c .before .before .rest .ensures ∙ ap (λ (k : ℕ). s .f .left .0 - k) n,
       c .end-block .ensures ∙ ap (λ (k : ℕ). k + block .size (s .b)) (c .before .end-flag .ensures),
     )
 

@@ -1,0 +1,5 @@
+pub mod Order
+pub mod Keyed
+pub mod Runs
+pub mod Machine
+pub mod Operations

@@ -1,6 +1,0 @@
-mod Building
-mod Marks
-mod Boards
-mod Ways
-mod Receipts
-mod Cells

@@ -1,0 +1,6 @@
+mod Building
+mod Marks
+mod Outcomes
+mod Ways
+mod Receipts
+mod Cells

@@ -1,0 +1,135 @@
+-- The calls on the rows, way by way, and what each way makes of the table. Assumes nothing.
+use Prim.Native.Nat.{ℕ, zero, suc, _<_}
+use mathlib.Core.Path.{_≡_, refl, ap, sym, subst, _∙_}
+use mathlib.Core.Bool.{Bool, true, false}
+use mathlib.Core.List.{List}
+use mathlib.Core.Logic.{inr}
+use mathlib.Core.Option.{none, some}
+use lib.ListN.{length}
+use lib.Dec.{eqb}
+use borrow.Author.Tests.{ne-eqb}
+use native.Mathlib.Omega.{arith}
+use Rattle.codec.specs.Answer.{pick}
+use Rattle.codec.specs.Codec.{first}
+use Rattle.order.specs.Values.{Address, Key, byKey, byAddress}
+use Rattle.calls.specs.Keyed.{find, put, alter}
+use Rattle.order.specs.Requests.{Ask, Mark, settle}
+use Rattle.calls.specs.Machine.{step}
+use Rattle.calls.specs.Operations as theory
+use Rattle.calls.specs.Operations.{post, receipt, release}
+use Rattle.order.specs.Calls.{Call, Operation, Row, Rows, make, full, onTable}
+use Rattle.order.proofs.Calls.{refused-stays}
+use Rattle.table.specs.Rows.{see, Whole}
+use Rattle.table.specs.WellFormed.{wellFormed}
+use Rattle.table.specs.declared.Table.{Table}
+use Rattle.table.proofs.InOrder.{rows-in-order}
+use Rattle.arguments.specs.Arguments.{named}
+use Rattle.transitions.specs.Acts.{Acted}
+
+-- ---- what each way promises
+
+module _ (d : Operation) (t : Table) where
+  -- the rows refuse, with a number
+  pub acted-refused : Whole t → wellFormed t ≡ true → (n : ℕ) → 0 < n → n ≡ onTable (inr d) (see t) .0 → Acted (inr d) t n t
+  acted-refused cells w n l e =
+      record {
+        answer = e ∙ rw w;
+        rows = sym (refused-stays (inr d) (see t) (rows-in-order t w) (λ z. omega (arith, e, z))) ∙ rw w;
+        well = refl;
+        refused = λ r. refl;
+        cells = cells;
+      }
+
+  pub acted-done : (t′ : Table) → wellFormed t ≡ true → 0 ≡ onTable (inr d) (see t) .0 → see t′ ≡ onTable (inr d) (see t) .1 → wellFormed t′ ≡ true → Whole t′ → Acted (inr d) t 0 t′
+  acted-done t′ w e s v c = record { answer = e ∙ rw w; rows = s ∙ rw w; well = v ∙ sym w; refused = λ r. absurd (r refl); cells = c }
+
+-- a refusal that the code hands back
+pub acted-kept : (c : Call) (t t′ : Table) (n x : ℕ) → x ≡ n → t′ ≡ t → Acted c t n t → Acted c t x t′
+acted-kept c t t′ n x e f a = subst (λ (m : ℕ). Acted c t m t′) (sym e) (subst (λ (u : Table). Acted c t n u) (sym f) a)
+
+-- ---- the table's form and the arguments come first
+
+by-arguments : (f : ℕ) (d : Operation) (s : Rows) → 0 < f → f ≡ onTable (named f d) s .0
+unfolding onTable theory.onTable step
+by-arguments zero d s l = absurd (omega arith)
+by-arguments (suc f) d s l = refl
+
+pub passed : (b : Bool) (f : ℕ) → pick b f 30 ≡ 0 → (b ≡ true) × (f ≡ 0)
+passed true f e = (refl, e)
+passed false f e = absurd (omega arith)
+
+-- an answer y behind what was judged: the look at the table told its form
+pub judged-first : (x j f y : ℕ) (s w : Bool) → x ≡ first j y → j ≡ pick s f 30 → s ≡ w → x ≡ first (pick w f 30) y
+judged-first x j f y s w e h i = e ∙ ap (λ (n : ℕ). first n y) (h ∙ ap (λ (b : Bool). pick b f 30) i)
+
+module _ (d : Operation) (t : Table) (cells : Whole t) (f : ℕ) where
+  first-refused : 0 < pick (wellFormed t) f 30 → Acted (named f d) t (pick (wellFormed t) f 30) t
+  first-refused l = by (wellFormed t) refl
+    where
+      by : (b : Bool) → wellFormed t ≡ b → Acted (named f d) t (pick (wellFormed t) f 30) t
+      by false w = record { answer = rw w; rows = rw w; well = refl; refused = λ r. refl; cells = cells }
+      by true w =
+          let p : 0 < f = rw w at l in
+          let n = by-arguments f d (see t) p in
+          record {
+            answer = rw w n;
+            rows = sym (refused-stays (named f d) (see t) (rows-in-order t w) (λ z. omega (arith, n, z))) ∙ rw w;
+            well = refl;
+            refused = λ r. refl;
+            cells = cells;
+          }
+
+  -- a call whose answer x is known: refused there, or by what the rows say
+  pub acts : (x : ℕ) (t′ : Table) → (0 < pick (wellFormed t) f 30 → x ≡ pick (wellFormed t) f 30) → (eqb x 0 ≡ false → t′ ≡ t) → (wellFormed t ≡ true → f ≡ 0 → Acted (inr d) t x t′) → Acted (named f d) t x t′
+  acts x t′ early kept act = go (pick (wellFormed t) f 30) refl
+    where
+      go : (n : ℕ) → pick (wellFormed t) f 30 ≡ n → Acted (named f d) t x t′
+      go zero e = let p = passed (wellFormed t) f e in subst (λ (g : ℕ). Acted (named g d) t x t′) (sym (p .1)) (act (p .0) (p .1))
+      go (suc n) e =
+          let l : 0 < pick (wellFormed t) f 30 = omega (arith, e) in
+          let z = early l in
+          acted-kept (named f d) t t′ _ x z (kept (ne-eqb x 0 (λ q. omega (arith, z, e, q)))) (first-refused l)
+
+-- ---- the calls on the rows
+
+module _ (k : Key) (s : Rows) where
+  pub release-missing : find byKey k s ≡ none → 26 ≡ onTable (inr (release k)) s .0
+  unfolding onTable theory.onTable step
+  release-missing e = rw e
+
+  pub release-held : (r : Row) → find byKey k s ≡ some r → (0 ≡ onTable (inr (release k)) s .0) × (put byKey k none s ≡ onTable (inr (release k)) s .1)
+  unfolding onTable theory.onTable step
+  release-held r e = (rw e, rw e)
+
+  module _ (r′ : Row) where
+    pub post-held : (r : Row) → find byKey k s ≡ some r → 22 ≡ onTable (inr (post k r′)) s .0
+    unfolding onTable theory.onTable step
+    post-held r e = rw e
+
+    module _ (e : find byKey k s ≡ none) where
+      pub post-full : full (length s) ≡ true → 23 ≡ onTable (inr (post k r′)) s .0
+      unfolding onTable theory.onTable step
+      post-full f = rw (e, f)
+
+      pub post-done : full (length s) ≡ false → (0 ≡ onTable (inr (post k r′)) s .0) × (put byKey k (some r′) s ≡ onTable (inr (post k r′)) s .1)
+      unfolding onTable theory.onTable step
+      post-done f = (rw (e, f), rw (e, f))
+
+  module _ (w : Address) (c : ℕ) where
+    pub receipt-missing : find byKey k s ≡ none → 26 ≡ onTable (inr (receipt k (w, c))) s .0
+    unfolding onTable theory.onTable step
+    receipt-missing e = rw e
+
+    module _ (r : Row) (e : find byKey k s ≡ some r) where
+      pub receipt-stranger : find byAddress w (r .1) ≡ none → 27 ≡ onTable (inr (receipt k (w, c))) s .0
+      unfolding onTable theory.onTable step
+      receipt-stranger f = rw (e, f)
+
+      module _ (m : Mark) (f : find byAddress w (r .1) ≡ some m) where
+        pub receipt-shut : settle (r .0) c m ≡ none → 28 ≡ onTable (inr (receipt k (w, c))) s .0
+        unfolding onTable theory.onTable step
+        receipt-shut g = rw (e, f, g)
+
+        pub receipt-done : (n : Mark) → settle (r .0) c m ≡ some n → (0 ≡ onTable (inr (receipt k (w, c))) s .0) × (put byKey k (some (r .0, alter byAddress w (λ o. n) (r .1))) s ≡ onTable (inr (receipt k (w, c))) s .1)
+        unfolding onTable theory.onTable step
+        receipt-done n g = (rw (e, f, g), rw (e, f, g))
