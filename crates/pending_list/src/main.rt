@@ -2,9 +2,9 @@
 // messages, and prints the table's listing.
 ghost use Prim.Native.Nat.{_≤_, _<_};
 ghost use lib.ListN.{length};
+use hexadecimal::LineRead;
 use libc::STDIN_FILENO;
 use libc::STDOUT_FILENO;
-use lines::LineRead;
 use listing::Listed;
 use table::Table;
 
@@ -39,7 +39,7 @@ fn end_line(t: Table, line: &[u8; 16385], held: usize) -> Table {
     }
     let mut out = [0u8; 8192];
     let whole = &line[..];
-    let r = lines::line_octets(&whole[..held], &mut out);
+    let r = hexadecimal::line_octets(&whole[..held], &mut out);
     let LineRead::Octets(size) = r else {
         return t;
     };
@@ -47,7 +47,7 @@ fn end_line(t: Table, line: &[u8; 16385], held: usize) -> Table {
     if 8192 < n {
         return t;
     }
-    lines::play(t, &out[..n])
+    playing::play(t, &out[..n])
 }
 
 // The characters of a chunk from a place on, to the end of the line or of the chunk. The table stays

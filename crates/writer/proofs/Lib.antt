@@ -2,4 +2,3 @@ pub mod Ways
 pub mod Parts
 pub mod Packed
 pub mod Valid
-mod Surveys

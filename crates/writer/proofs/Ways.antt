@@ -46,12 +46,6 @@ bad-answer x f e = rw e (go (faultNo f) (fault-positive f))
     go zero l = absurd (omega arith)
     go (suc k) l = refl
 
--- a check that says nothing
-pub fine-check : (x : Check) (n : ℕ) → checkNo x ≡ n → tagOf check.the-type x ≡ 0 → n ≡ 0
-unfolding checkNo
-fine-check Check.Fine n e t = sym e
-fine-check (Check.Bad f) n e t = absurd (omega arith)
-
 module _ (h : Header) (count : ℕ) where
   -- the fields are at fault
   pub bad-fields : (x : Check) → checkNo x ≡ fieldsFault h → tagOf check.the-type x ≡ 1 → answered (checkNo x) 0 ≡ checking h count

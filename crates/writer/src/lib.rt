@@ -5,14 +5,13 @@ ghost use Rattle.codec.specs.Refusals.{checkNo, faultNo};
 ghost use Rattle.header.specs.Rules.{rulesKept};
 ghost use Rattle.header.specs.Sizes.{sizesRight};
 ghost use Rattle.writer.specs.Writing.{fieldsFault, fieldsEnd, answered, rejected, checking, writing, outputAfter, told};
-use crate::survey::Survey;
 use bits::BitPlace;
 use bits::OctetSize;
 use codec::Check;
 use codec::Fault;
 use header::Header;
+use survey::Survey;
 
-pub mod survey;
 pub mod wire;
 
 // The answer of writing and of the check: done, with the header's octets; or refused with the kind of

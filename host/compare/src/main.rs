@@ -34,6 +34,9 @@ const INPUTS: u64 = 200_000;
 /// Inputs of `pending_list` for each seed.
 const PROGRAMS: u64 = 250;
 
+/// Octets of stack for a seed's thread: records and tables go by value.
+const STACK: usize = 8 << 20;
+
 const USAGE: &str = "usage: compare [--seed N] [--inputs N]
   --seed N    one run with this seed, instead of a fixed one and one from the clock
   --inputs N  records, datagrams and calls for each seed (200000)";
@@ -62,10 +65,9 @@ fn options() -> Option<Options> {
 }
 
 /// All comparisons with one seed. Gives back the counts.
-fn compare_with(seed: u64, inputs: u64, tally: Tally) -> Result<Tally, String> {
-    println!("seed {seed}: {inputs} inputs, {PROGRAMS} inputs of pending_list");
-    println!("  the same again: compare --seed {seed} --inputs {inputs}");
-    let mut run = Run::new(seed, tally);
+fn compare_with(seed: u64, inputs: u64) -> Result<Tally, String> {
+    println!("seed {seed}: {inputs} inputs, {PROGRAMS} inputs of pending_list (again: --seed {seed})");
+    let mut run = Run::new(seed, Tally::new());
     let mut play = || {
         for _ in 0..PROGRAMS {
             let input = program::generated(&mut run.random);
@@ -75,6 +77,22 @@ fn compare_with(seed: u64, inputs: u64, tally: Tally) -> Result<Tally, String> {
     };
     play().map_err(|text: String| format!("seed {seed}: {text}"))?;
     Ok(run.tally)
+}
+
+/// Each seed's comparisons on a thread of its own: no run knows of another.
+fn compare_all(options: &Options, mut tally: Tally) -> Result<Tally, String> {
+    std::thread::scope(|scope| {
+        let mut runs = Vec::new();
+        for seed in &options.seeds {
+            let thread = std::thread::Builder::new().stack_size(STACK);
+            let run = thread.spawn_scoped(scope, || compare_with(*seed, options.inputs));
+            runs.push(run.map_err(|error| format!("no thread: {error}"))?);
+        }
+        for run in runs {
+            tally.add(&run.join().map_err(|_| "a run ended in a panic".to_string())??);
+        }
+        Ok(tally)
+    })
 }
 
 fn compare(options: &Options) -> Result<Tally, String> {
@@ -89,11 +107,7 @@ fn compare(options: &Options) -> Result<Tally, String> {
     let mut run = Run::new(FIXED_SEED, Tally::new());
     program_cases::compare_named(&mut run)?;
     println!("named inputs of pending_list: {}", run.tally.programs);
-    let mut tally = run.tally;
-    for seed in &options.seeds {
-        tally = compare_with(*seed, options.inputs, tally)?;
-    }
-    Ok(tally)
+    compare_all(options, run.tally)
 }
 
 /// Each refusal of each call has to come up often enough, unless the run is shorter than it is meant to be.

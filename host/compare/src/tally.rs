@@ -43,6 +43,18 @@ impl Tally {
         Tally { seen: [[0; 31]; 7], records: 0, datagrams: 0, calls: 0, rows: 0, programs: 0 }
     }
 
+    /// Adds another run's counts.
+    pub fn add(&mut self, other: &Tally) {
+        for (sums, seen) in self.seen.iter_mut().zip(&other.seen) {
+            sums.iter_mut().zip(seen).for_each(|(sum, n)| *sum += n);
+        }
+        self.records += other.records;
+        self.datagrams += other.datagrams;
+        self.calls += other.calls;
+        self.rows += other.rows;
+        self.programs += other.programs;
+    }
+
     pub fn inputs(&self) -> u64 {
         self.records + self.datagrams + self.calls
     }

@@ -4,7 +4,8 @@ use mathlib.Core.Path.{_≡_, sym, ap, _∙_}
 use native.Mathlib.Omega.{arith}
 use borrow.Author.Tests.{not-true, not-false}
 use Rattle.writer.specs.Writing.{fieldsFault, told, done}
-use Rattle.writer.proofs.Ways.{fine-check, bad-fields, rule-broken, sizes-wrong, too-long, all-right}
+use Rattle.survey.proofs.Surveys.{fine-check}
+use Rattle.writer.proofs.Ways.{bad-fields, rule-broken, sizes-wrong, too-long, all-right}
 use Rattle.writer.proofs.Parts.{size-bounded}
 use Rattle.writer.proofs.check.Statement.{statement}
 use Rattle.writer.proofs.check.Tie as tie

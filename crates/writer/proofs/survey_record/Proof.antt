@@ -7,8 +7,7 @@ use Rattle.header.specs.Rules.{rulesKept, rules, settingOf, usedBlocks}
 use Rattle.header.specs.Table.{front, blocks}
 use Rattle.rules.proofs.Over.{all-swap}
 use Rattle.writer.proofs.Parts.{blocks-legal}
-use Rattle.writer.proofs.Surveys.{faulty, first-faulty}
-use Rattle.writer.proofs.Ways.{fine-check}
+use Rattle.survey.proofs.Surveys.{fine-check, faulty, first-faulty}
 use Rattle.writer.proofs.survey_record.Statement.{statement}
 use Rattle.writer.proofs.survey_record.Tie as tie
 

@@ -1,0 +1,115 @@
+-- A datagram's calls, one after another. Assumes nothing.
+use Prim.Native.Nat.{ℕ, zero, suc, _+_, _-_, _≤_, _<_}
+use mathlib.Core.Path.{_≡_, refl, sym, ap, ap₂, _∙_}
+use mathlib.Core.Bool.{Bool, true, false}
+use mathlib.Core.List.{List, [], _∷_}
+use lib.ListN.{length, getD}
+use native.Mathlib.Omega.{arith}
+use Rattle.codec.specs.Answer.{pick}
+use Rattle.header.specs.Zero.{noBlock}
+use Rattle.header.specs.declared.Block.{Block}
+use Rattle.header.specs.declared.Header.{Header}
+use Rattle.order.specs.Calls.{Rows, onTable}
+use Rattle.table.specs.Rows.{see}
+use Rattle.table.specs.WellFormed.{wellFormed}
+use Rattle.table.specs.declared.Table.{Table}
+use Rattle.arguments.specs.Arguments.{Arguments, posting, receiving, blockAt, callOf}
+use Rattle.pending.specs.Calls.{Did, rowsAfter}
+use Rattle.reader.specs.Reading.{Reading, accepted, rejected, reading, userData}
+use Rattle.reader.specs.Told.{Told, told, toTell, outcomeDone}
+use Rattle.reader.specs.declared.HeaderRead.{HeaderRead}
+use Rattle.playing.specs.Plays.{Plays, turn, after, rowsOf, playedBy, played}
+
+-- ---- whether a block has G8
+
+any-default : {A : Type 0} (l : List A) (i : ℕ) (d e : A) → i < length l → getD l i d ≡ getD l i e
+any-default [] i d e h = absurd (omega arith)
+any-default (x ∷ l) zero d e h = refl
+any-default (x ∷ l) (suc i) d e h = any-default l i d e (omega arith)
+
+past : {A : Type 0} (l : List A) (i : ℕ) (d : A) → length l ≤ i → getD l i d ≡ d
+past [] i d h = refl
+past (x ∷ l) zero d h = absurd (omega arith)
+past (x ∷ l) (suc i) d h = past l i d (omega arith)
+
+pub no-block : (h : Header) (n : ℕ) → n < 1 → false ≡ blockAt h n .response .present
+unfolding blockAt noBlock
+no-block h zero k = refl
+no-block h (suc i) k = absurd (omega arith)
+
+pub past-blocks : (h : Header) (n : ℕ) → length (h .blocks .list) ≡ 16 → 16 < n → false ≡ blockAt h n .response .present
+unfolding blockAt noBlock
+past-blocks h zero l k = absurd (omega arith)
+past-blocks h (suc i) l k = sym (ap (λ (b : Block). b .response .present) (past (h .blocks .list) i noBlock (omega arith)))
+
+pub at-block : (h : Header) (n : ℕ) (d : Block) → length (h .blocks .list) ≡ 16 → 1 ≤ n → n ≤ 16 → getD (h .blocks .list) (n - 1) d .response .present ≡ blockAt h n .response .present
+unfolding blockAt
+at-block h zero d l j k = absurd (omega arith)
+at-block h (suc i) d l j k =
+    let e : suc i - 1 ≡ i = omega arith in
+    ap (λ (b : Block). b .response .present) (any-default (h .blocks .list) (suc i - 1) d noBlock (omega arith) ∙ ap (λ (m : ℕ). getD (h .blocks .list) m noBlock) e)
+
+-- ---- one call
+
+pub plays-receipt : (h : Header) (n count k : ℕ) (b : Bool) (t t′ : Table) → b ≡ blockAt h n .response .present → b ≡ true → Did (receiving h n count) t k t′ → Plays (turn h n count) t t′
+unfolding turn
+plays-receipt h n count k b t t′ e y d = let z : blockAt h n .response .present ≡ true = sym e ∙ y in rw z (record { rows = d .rows; well = d .well })
+
+pub plays-posting : (h : Header) (n count k : ℕ) (b : Bool) (t t′ : Table) → b ≡ blockAt h n .response .present → b ≡ false → Did (posting h n count) t k t′ → Plays (turn h n count) t t′
+unfolding turn
+plays-posting h n count k b t t′ e y d = let z : blockAt h n .response .present ≡ false = sym e ∙ y in rw z (record { rows = d .rows; well = d .well })
+
+-- ---- call after call
+
+-- the table behind the calls of the first i blocks
+pub record Behind (h : Header) (count : ℕ) (t : Table) (i : ℕ) (t′ : Table) : Type 0 where
+  pub within : i ≤ h .blocks .count
+  pub rows : see t′ ≡ rowsOf h count t i
+  pub well : wellFormed t′ ≡ wellFormed t
+
+pub behind-none : (h : Header) (count : ℕ) (t : Table) → Behind h count t 0 t
+unfolding after
+behind-none h count t = record { within = omega arith; rows = go (wellFormed t); well = refl }
+  where
+    go : (w : Bool) → see t ≡ pick w (see t) (see t)
+    go true = refl
+    go false = refl
+
+step : (w : Bool) (a : Arguments) (x y : Rows) → pick w (onTable (callOf a) (pick w x y) .1) (pick w x y) ≡ pick w (onTable (callOf a) x .1) y
+step true a x y = refl
+step false a x y = refl
+
+pub behind-more : (h : Header) (count : ℕ) (t : Table) (i : ℕ) (t′ t″ : Table) → Behind h count t i t′ → i < h .blocks .count → Plays (turn h (i + 1) count) t′ t″ → Behind h count t (i + 1) t″
+unfolding after
+behind-more h count t i t′ t″ b k p =
+    let n : i + 1 ≡ suc i = omega arith in
+    let e : see t″ ≡ rowsAfter (turn h (suc i) count) t′ = p .rows ∙ ap (λ (m : ℕ). rowsAfter (turn h m count) t′) n in
+    let r : see t″ ≡ rowsOf h count t (suc i) =
+    e ∙ ap₂ (λ (w : Bool) (x : Rows). pick w (onTable (callOf (turn h (suc i) count)) x .1) x) (b .well) (b .rows) ∙ step (wellFormed t) (turn h (suc i) count) (after h count (see t) i) (see t) in
+    record { within = omega arith; rows = rw n r; well = p .well ∙ b .well }
+
+pub behind-all : (h : Header) (count : ℕ) (t : Table) (i : ℕ) (t′ : Table) → Behind h count t i t′ → h .blocks .count ≤ i → (see t′ ≡ rowsOf h count t (h .blocks .count)) × (wellFormed t′ ≡ wellFormed t)
+behind-all h count t i t′ b k =
+    let e : i ≡ h .blocks .count = omega (arith, b .within) in
+    (b .rows ∙ ap (rowsOf h count t) e, b .well)
+
+-- ---- a datagram, by what the reading tells
+
+by-refusal : (s : List ℕ) (t : Table) (x : Reading) → toTell x .done ≡ false → see t ≡ playedBy s t x
+unfolding playedBy toTell
+by-refusal s t (accepted h n) e = let z : _≡_ {A = ℕ} 0 1 = cc in absurd (omega arith)
+by-refusal s t (rejected f p) e = refl
+
+by-record : (s : List ℕ) (t : Table) (x : Reading) → toTell x .done ≡ true → rowsOf (toTell x .header) (length (userData s)) t (toTell x .header .blocks .count) ≡ playedBy s t x
+unfolding playedBy toTell
+by-record s t (accepted h n) e = refl
+by-record s t (rejected f p) e = let z : _≡_ {A = ℕ} 0 1 = cc in absurd (omega arith)
+
+module _ (s : List ℕ) (t : Table) (r : HeaderRead) (e : told r ≡ toTell (reading s)) where
+  pub played-refused : outcomeDone (r .outcome) ≡ false → see t ≡ played t s
+  played-refused d = by-refusal s t (reading s) (sym (ap (λ (x : Told). x .done) e) ∙ d)
+
+  pub played-record : outcomeDone (r .outcome) ≡ true → (count : ℕ) → count ≡ length (userData s) → (t′ : Table) → see t′ ≡ rowsOf (r .header) count t (r .header .blocks .count) → see t′ ≡ played t s
+  played-record d count k t′ g =
+      let w : r .header ≡ toTell (reading s) .header = ap (λ (x : Told). x .header) e in
+      g ∙ ap₂ (λ (x : Header) (n : ℕ). rowsOf x n t (x .blocks .count)) w k ∙ by-record s t (reading s) (sym (ap (λ (x : Told). x .done) e) ∙ d)
