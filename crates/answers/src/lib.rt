@@ -8,6 +8,8 @@ ghost use Rattle.listing.specs.Listing as listing;
 ghost use Rattle.answers.specs.Numbers.{sized, refusedBy, readNumbers, writeNumbers, listNumbers};
 use arguments::Answer;
 use arguments::PendingFault;
+use bits::BitPlace;
+use bits::OctetSize;
 use codec::Fault;
 use header::Header;
 use listing::Listed;
@@ -97,23 +99,23 @@ fn listing_number(f: ListingFault) -> u32
 }
 
 // A size in octets, and no refusal.
-fn size(length: usize) -> SizeAnswer
-    ensures { λ r. ⌜ r ≡ sized length ⌝ }
+fn size(octets: OctetSize) -> SizeAnswer
+    ensures { λ r. ⌜ r ≡ sized (octets .0) ⌝ }
 {
     SizeAnswer {
         number: 0,
         place: 0,
-        length: length,
+        length: octets.0,
     }
 }
 
 // A refusal, and no size.
-fn refused(number: u32, place: usize) -> SizeAnswer
-    ensures { λ r. ⌜ r ≡ refusedBy number place ⌝ }
+fn refused(number: u32, place: BitPlace) -> SizeAnswer
+    ensures { λ r. ⌜ r ≡ refusedBy number (place .0) ⌝ }
 {
     SizeAnswer {
         number: number,
-        place: place,
+        place: place.0,
         length: 0,
     }
 }
@@ -122,8 +124,8 @@ pub fn of_writing(w: Written) -> SizeAnswer
     ensures { λ r. ⌜ r ≡ writeNumbers (writer.told w) ⌝ }
 {
     match w {
-        Written::Done(n) => size(n.0),
-        Written::Refused(fault, place) => refused(fault_number(fault), place.0),
+        Written::Done(n) => size(n),
+        Written::Refused(fault, place) => refused(fault_number(fault), place),
     }
 }
 
@@ -131,8 +133,8 @@ pub fn of_listing(l: Listed) -> SizeAnswer
     ensures { λ r. ⌜ r ≡ listNumbers (listing.told l) ⌝ }
 {
     match l {
-        Listed::Done(n) => size(n.0),
-        Listed::Refused(fault, place) => refused(listing_number(fault), place.0),
+        Listed::Done(n) => size(n),
+        Listed::Refused(fault, place) => refused(listing_number(fault), place),
     }
 }
 
@@ -145,12 +147,12 @@ fn outcome_number(o: Outcome) -> u32
     }
 }
 
-fn outcome_place(o: Outcome) -> usize
-    ensures { λ r. ⌜ r ≡ outcomePlace o ⌝ }
+fn outcome_place(o: Outcome) -> BitPlace
+    ensures { λ r. ⌜ r .0 ≡ outcomePlace o ⌝ }
 {
     match o {
-        Outcome::Done => 0,
-        Outcome::Refused(_, place) => place.0,
+        Outcome::Done => BitPlace(0),
+        Outcome::Refused(_, place) => place,
     }
 }
 
@@ -159,9 +161,10 @@ pub fn of_reading(a: HeaderRead) -> ReadAnswer
 {
     let outcome = a.outcome;
     let header = a.header;
+    let place = outcome_place(outcome);
     ReadAnswer {
         number: outcome_number(outcome),
-        place: outcome_place(outcome),
+        place: place.0,
         length: a.length.0,
         header: header,
     }
@@ -176,12 +179,12 @@ fn answer_number(a: Answer) -> u32
     }
 }
 
-fn answer_place(a: Answer) -> usize
-    ensures { λ r. ⌜ r ≡ answerPlace a ⌝ }
+fn answer_place(a: Answer) -> BitPlace
+    ensures { λ r. ⌜ r .0 ≡ answerPlace a ⌝ }
 {
     match a {
-        Answer::Done => 0,
-        Answer::Refused(_, place) => place.0,
+        Answer::Done => BitPlace(0),
+        Answer::Refused(_, place) => place,
     }
 }
 
@@ -190,9 +193,10 @@ pub fn of_call(a: TableAfter) -> TableAnswer
 {
     let answer = a.answer;
     let table = a.table;
+    let place = answer_place(answer);
     TableAnswer {
         number: answer_number(answer),
-        place: answer_place(answer),
+        place: place.0,
         table: table,
     }
 }

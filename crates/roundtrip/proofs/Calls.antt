@@ -1,4 +1,4 @@
--- Demand 2 of the calls, by their contracts alone, in both directions: `read` hands back what `write` wrote, and `write` writes again what `read` accepted. The hypotheses are the two
+-- Demand 2 of the calls, by their contracts alone: `read` leaves no unused cell other than 0, and, in both directions, `read` hands back what `write` wrote, and `write` writes again what `read` accepted. The hypotheses are the two
 -- contracts (`Writes`, `Reads`), that the record is valid or the datagram accepted, and that the output has room. Assumes nothing else.
 use Prim.Native.Nat.{ℕ, _≤_}
 use mathlib.Core.Path.{_≡_, refl, ap, ap₂, sym, _∙_}
@@ -9,6 +9,7 @@ use lib.Seq.{take-at, length-take-le}
 use native.Mathlib.Omega.{arith}
 use Rattle.bits.specs.Bits.{AllOctets}
 use Rattle.header.specs.Same.{Same, headerNorm}
+use Rattle.header.specs.Zero.{noHeader}
 use Rattle.header.specs.declared.Header.{Header}
 use Rattle.reader.specs.Reading.{Reading, reading, accepted, rejected, userData}
 use Rattle.reader.specs.Told as read
@@ -19,8 +20,18 @@ use Rattle.writer.specs.declared.Written.{Written}
 use Rattle.roundtrip.specs.Inverse.{ReadAs}
 use Rattle.roundtrip.specs.Demand2.{Reads, Writes, CameBack, WentOut}
 use Rattle.roundtrip.proofs.ReadBack.{header-octets, read-as, written-as}
-use Rattle.roundtrip.proofs.UnusedZero.{unused-zero}
+use Rattle.roundtrip.proofs.UnusedZero.{unused-zero, zero-record}
 use Rattle.roundtrip.proofs.WrittenAgain.{header-within, written-again}
+
+-- ---- any call of `read`
+
+pub read-zero : (s : List ℕ) (r : HeaderRead) → Reads s r → headerNorm (r .header) ≡ r .header
+unfolding toTell
+read-zero s r call = go (reading s) refl
+  where
+    go : (x : Reading) → reading s ≡ x → headerNorm (r .header) ≡ r .header
+    go (accepted h n) e = let k : r .header ≡ h = ap (λ (t : Told). t .header) (call .tells ∙ ap toTell e) in rw k (unused-zero s h n e)
+    go (rejected f p) e = let k : r .header ≡ noHeader = ap (λ (t : Told). t .header) (call .tells ∙ ap toTell e) in rw k zero-record
 
 -- ---- a call of `read` that was done
 
@@ -37,9 +48,6 @@ module _ (s : List ℕ) (r : HeaderRead) (call : Reads s r) (fine : outcomeDone 
           let k : outcomeDone (r .outcome) ≡ false = ap (λ (t : Told). t .done) (call .tells ∙ ap toTell e) in
           let z : true ≡ false = sym fine ∙ k in
           let o : _≡_ {A = ℕ} 0 1 = cc in absurd (omega arith)
-
-  read-unused-zero : headerNorm (r .header) ≡ r .header
-  read-unused-zero = unused-zero s (r .header) (r .length .0) was-accepted
 
 -- ---- `write`, then `read` of what it wrote
 
@@ -62,12 +70,10 @@ module _ (h : Header) (count : ℕ) (valid : ValidRecord h count) (out : List �
     pub came-back : CameBack h w r
     unfolding toTell
     came-back =
-        let fine = ap (λ (t : Told). t .done) all in
         record {
-          readDone = fine;
+          readDone = ap (λ (t : Told). t .done) all;
           sameLength = write-done ∙ ap done (sym (ap (λ (t : Told). t .octets) all));
           sameRecord = rw (ap (λ (t : Told). t .header) all) (back .same);
-          unusedZero = read-unused-zero (take (headerSize h) out′ ++ d) r call fine;
         }
 
 -- ---- `read`, then `write` of what it accepted
@@ -84,7 +90,6 @@ module _ (s : List ℕ) (octets : AllOctets s) (r : HeaderRead) (call : Reads s 
     went-out =
         let a = written-again s octets (r .length .0) (r .header) took out room in
         record {
-          unusedZero = read-unused-zero s r call fine;
           sameLength = wrote .tells ∙ a .answer ∙ ap done long;
           sameOctets = wrote .leaves ∙ a .output ∙ ap (λ (k : ℕ). take (r .length .0) s ++ drop k out) long;
         }

@@ -27,16 +27,14 @@ pub record Writes (h : Header) (count : ℕ) (out : List ℕ) (w : Written) (out
   pub tells : told w ≡ writing h count (length out)
   pub leaves : out′ ≡ outputAfter h (writing h count (length out)) out
 
--- `write` and then `read` were done: what came back is the same record, its unused cells are 0, and the header is as long as `write` said
+-- `write` and then `read` were done: what came back is the same record, and the header is as long as `write` said
 pub record CameBack (h : Header) (w : Written) (r : HeaderRead) : Type 0 where
   pub readDone : outcomeDone (r .outcome) ≡ true
   pub sameLength : told w ≡ done (r .length .0)
   pub sameRecord : Same h (r .header)
-  pub unusedZero : headerNorm (r .header) ≡ r .header
 
 -- `read` was done and then `write` too: the octets that were read as the header now begin the output, whose others are as they were
 pub record WentOut (s : List ℕ) (r : HeaderRead) (out : List ℕ) (w : Written) (out′ : List ℕ) : Type 0 where
-  pub unusedZero : headerNorm (r .header) ≡ r .header
   pub sameLength : told w ≡ done (r .length .0)
   pub sameOctets : out′ ≡ take (r .length .0) s ++ drop (r .length .0) out
 
@@ -53,7 +51,9 @@ pub record Demand2 : Type 0 where
   pub valid : (s : List ℕ) (h : Header) (n : ℕ) → AllOctets s → reading s ≡ accepted h n → ValidRecord h (length (userData s))
   pub unusedZero : (s : List ℕ) (h : Header) (n : ℕ) → reading s ≡ accepted h n → headerNorm h ≡ h
   pub again : (s : List ℕ) (h : Header) (n : ℕ) → AllOctets s → reading s ≡ accepted h n → (out : List ℕ) → n ≤ length out → WrittenAs h (length (userData s)) (take n s) out
-  -- the calls: what `write` wrote, with any user data of that count behind it, `read` hands back
+  -- the calls: the record that `read` hands out, of any octets at all, has 0 in its unused cells
+  pub readZero : (s : List ℕ) (r : HeaderRead) → Reads s r → headerNorm (r .header) ≡ r .header
+  -- what `write` wrote, with any user data of that count behind it, `read` hands back
   pub writeRead : (h : Header) (count : ℕ) → ValidRecord h count → (out : List ℕ) → headerSize h ≤ length out → (w : Written) (out′ : List ℕ) → Writes h count out w out′ →
       (d : List ℕ) → length d ≡ count → (r : HeaderRead) → Reads (take (headerSize h) out′ ++ d) r → CameBack h w r
   -- and what `read` accepted, `write` writes again

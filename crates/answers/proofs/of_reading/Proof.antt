@@ -6,7 +6,7 @@ use Rattle.answers.proofs.of_reading.Tie as tie
 
 returns : tie.Need-returns
 unfolding readNumbers
-returns c = rw (← (c .before .outcome-number .ensures), ← (c .outcome-place .ensures))
+returns c = rw (← (c .outcome-number .ensures), ← (c .before .outcome-place .ensures))
 
 pub of-reading-spec : {M : Type 1} → statement M
 of-reading-spec = tie.close (tie.spec (λ c κs. search needs) (λ c κs. search needs) returns)
