@@ -330,7 +330,7 @@ static inline const char *pruvelaccio_meaning(uint32_t number)
     case 2: return "the version is not legal";
     case 3: return "another code is not legal";
     case 4: return "a text is empty, or a character or a length of it is bad";
-    case 5: return "too many addressees, blocks or references, or none where there must be one";
+    case 5: return "a list of addressees, blocks or references is longer than it may be, or empty";
     case 6: return "an address has both forms or neither";
     case 7: return "the presence bit of G10 is 1";
     case 8: return "one of the rules (a) to (i) is broken";

@@ -14,39 +14,39 @@ true ⇒ b = b
 false ⇒ b = true
 
 infixr 10 _⇒_
--- (a) no G1: no G7
+-- (a) without an originator (G1) there are no requests (G7)
 unfoldable pub ruleA : Setting → Block → Bool
 ruleA x b = not (x .originator) ⇒ not (b .times .requests .present)
 
--- (b) G8: no G6, no G7
+-- (b) a response (G8) has neither a perishability time (G6) nor requests (G7)
 unfoldable pub ruleB : Setting → Block → Bool
 ruleB x b = b .response .present ⇒ (not (b .times .perish .present) && not (b .times .requests .present))
 
--- (c) UMF 1: no G4
+-- (c) format 1 has no message identification (G4)
 unfoldable pub ruleC : Setting → Block → Bool
 ruleC x b = eqb (b .format .umf) 1 ⇒ not (b .format .identity .present)
 
--- (d) UMF 4: no G4
+-- (d) format 4 has none either
 unfoldable pub ruleD : Setting → Block → Bool
 ruleD x b = eqb (b .format .umf) 4 ⇒ not (b .format .identity .present)
 
--- (e) compression: no G8
+-- (e) with compression there is no response (G8)
 unfoldable pub ruleE : Setting → Block → Bool
 ruleE x b = x .compression ⇒ not (b .response .present)
 
--- (f) several blocks: header size and every message size present
+-- (f) where there are several blocks, the header has its size and so has this block
 unfoldable pub ruleF : Setting → Block → Bool
 ruleF x b = x .several ⇒ (x .sized && b .handling .size .present)
 
--- (g) R/C not 6: no CANTCO reason
+-- (g) only R/C 6 has a reason why one cannot comply
 unfoldable pub ruleG : Setting → Block → Bool
 ruleG x b = b .response .present ⇒ not (eqb (b .response .response .compliance .code) 6) ⇒ not (b .response .response .compliance .cantco .present)
 
--- (h) R/C not 2: no CANTPRO reason
+-- (h) only R/C 2 has a reason why one cannot process
 unfoldable pub ruleH : Setting → Block → Bool
 ruleH x b = b .response .present ⇒ not (eqb (b .response .response .compliance .code) 2) ⇒ not (b .response .response .compliance .cantpro .present)
 
--- (i) any request bit of G7 is 1: G5 present
+-- (i) where a request bit of G7 is set, the originator's time (G5) is there, by which an answer can name the message
 unfoldable pub ruleI : Setting → Block → Bool
 ruleI x b =
     b .times .requests .present

@@ -9,7 +9,7 @@ use header::Header;
 use header::OptionalRequests;
 use header::Setting;
 
-// No G1: no G7.
+// Rule (a): without G1 no G7.
 fn rule_a(x: Setting, b: Block) -> bool
     ensures { λ r. ⌜ r ≡ ruleA x b ⌝ }
 {
@@ -20,7 +20,7 @@ fn rule_a(x: Setting, b: Block) -> bool
     !b.times.requests.present
 }
 
-// G8: no G6, no G7.
+// Rule (b): with G8 neither G6 nor G7.
 fn rule_b(x: Setting, b: Block) -> bool
     ensures { λ r. ⌜ r ≡ ruleB x b ⌝ }
 {
@@ -35,7 +35,7 @@ fn rule_b(x: Setting, b: Block) -> bool
     true
 }
 
-// UMF 1: no G4.
+// Rule (c): no G4 in UMF 1.
 fn rule_c(x: Setting, b: Block) -> bool
     ensures { λ r. ⌜ r ≡ ruleC x b ⌝ }
 {
@@ -46,7 +46,7 @@ fn rule_c(x: Setting, b: Block) -> bool
     true
 }
 
-// UMF 4: no G4.
+// Rule (d): nor in UMF 4.
 fn rule_d(x: Setting, b: Block) -> bool
     ensures { λ r. ⌜ r ≡ ruleD x b ⌝ }
 {
@@ -57,7 +57,7 @@ fn rule_d(x: Setting, b: Block) -> bool
     true
 }
 
-// Compression: no G8.
+// Rule (e): no G8 in a compressed message.
 fn rule_e(x: Setting, b: Block) -> bool
     ensures { λ r. ⌜ r ≡ ruleE x b ⌝ }
 {
@@ -68,7 +68,7 @@ fn rule_e(x: Setting, b: Block) -> bool
     true
 }
 
-// Several blocks: header size and every message size present.
+// Rule (f): of several blocks each has its size, and the header has its own.
 fn rule_f(x: Setting, b: Block) -> bool
     ensures { λ r. ⌜ r ≡ ruleF x b ⌝ }
 {
@@ -83,7 +83,7 @@ fn rule_f(x: Setting, b: Block) -> bool
     true
 }
 
-// R/C not 6: no CANTCO reason.
+// Rule (g): a CANTCO reason with R/C 6 alone.
 fn rule_g(x: Setting, b: Block) -> bool
     ensures { λ r. ⌜ r ≡ ruleG x b ⌝ }
 {
@@ -98,7 +98,7 @@ fn rule_g(x: Setting, b: Block) -> bool
     true
 }
 
-// R/C not 2: no CANTPRO reason.
+// Rule (h): a CANTPRO reason with R/C 2 alone.
 fn rule_h(x: Setting, b: Block) -> bool
     ensures { λ r. ⌜ r ≡ ruleH x b ⌝ }
 {
@@ -113,7 +113,7 @@ fn rule_h(x: Setting, b: Block) -> bool
     true
 }
 
-// Any request bit of G7 is 1: G5 present.
+// Rule (i): what G7 asks needs G5.
 fn rule_i(x: Setting, b: Block) -> bool
     ensures { λ r. ⌜ r ≡ ruleI x b ⌝ }
 {

@@ -17,7 +17,7 @@ impl Refusal {
             2 => "the version is not legal",
             3 => "another code is not legal",
             4 => "a text is empty, or a character or a length of it is bad",
-            5 => "too many addressees, blocks or references, or none where there must be one",
+            5 => "a list of addressees, blocks or references is longer than it may be, or empty",
             6 => "an address has both forms or neither",
             7 => "the presence bit of G10 is 1",
             8 => "one of the rules (a) to (i) is broken",
