@@ -6,11 +6,19 @@
  * Every call takes any input. Its answer has number 0, done, or the number of a refusal with its bit place.
  * A refusal stores nothing through any pointer.
  *
+ * A record is lent: the library reads it, and fills it, where it lies. Any octets at all are some record: a
+ * flag is set unless its octet is 0, a number is 32 bits with the low octet first, and the octets between the
+ * cells carry no meaning. The table and a key go by value.
+ *
  * The host sees to this:
- * - Every bool holds 0 or 1. A struct whose octets come from outside goes through pruvelaccio_load_...
- * - A pointer reaches as many octets as the length beside it says. NULL is fine with length 0. A pointer to
- *   a size that the host does not want may be NULL. No other pointer may.
- * - The stack has room. The structs go to the library by value: posting, the deepest call, takes 330 KB, so
+ * - Every bool of a table and of a key holds 0 or 1. Octets that come from outside go through
+ *   pruvelaccio_load_... A record can be lent as it came; but C too takes a bool to hold 0 or 1, so a host
+ *   that looks at the flags of such a record loads it first.
+ * - A pointer reaches as many octets as the length beside it says, or the whole struct. NULL is fine with
+ *   length 0. A pointer to a size that the host does not want may be NULL. No other pointer may.
+ * - What a call stores to lies apart from all else that it is lent, and nobody else changes any of it before
+ *   the call has ended. A record in memory that another process writes to is copied first.
+ * - The stack has room. The table goes to the library by value: posting, the deepest call, takes 370 KB, so
  *   a thread wants 512 KB.
  * - One table is changed by one thread at a time. The library keeps nothing between calls.
  */
@@ -265,25 +273,20 @@ typedef struct pruvelaccio_table {
 } pruvelaccio_table;
 
 /* The library was compiled with these sizes; a compiler that lays the structs out otherwise stops here. */
+#if defined(__BYTE_ORDER__) && __BYTE_ORDER__ != __ORDER_LITTLE_ENDIAN__
+#error "the numbers of a record have their low octet first"
+#endif
 PRUVELACCIO_ASSERT(sizeof(bool) == 1 && sizeof(size_t) == 8, "a bool is one octet and a size is eight");
-PRUVELACCIO_ASSERT(sizeof(pruvelaccio_address) == 80, "size of an address");
-PRUVELACCIO_ASSERT(sizeof(pruvelaccio_block) == 852, "size of a block");
-PRUVELACCIO_ASSERT(sizeof(pruvelaccio_header) == 16312, "size of a header");
+#include "pruvelaccio_layout.h"
 PRUVELACCIO_ASSERT(sizeof(pruvelaccio_key) == 112, "size of a key");
 PRUVELACCIO_ASSERT(sizeof(pruvelaccio_row) == 1592, "size of a row");
 PRUVELACCIO_ASSERT(sizeof(pruvelaccio_table) == 50948, "size of a table");
 
 /*
- * The library's own functions: structs go by value, octets as a pointer that is never NULL and a length. The
- * calls further down are easier to use.
+ * The library's own functions: a record is a pointer to its octets, which need not be aligned; the table and
+ * a key go by value; other octets are a pointer that is never NULL and a length. The calls further down are
+ * easier to use.
  */
-
-typedef struct pruvelaccio_read_answer {
-    uint32_t number;
-    size_t place;
-    size_t length;
-    pruvelaccio_header header;
-} pruvelaccio_read_answer;
 
 typedef struct pruvelaccio_size_answer {
     uint32_t number;
@@ -297,15 +300,14 @@ typedef struct pruvelaccio_table_answer {
     pruvelaccio_table table;
 } pruvelaccio_table_answer;
 
-pruvelaccio_read_answer pruvelaccio_read_value(const uint8_t *datagram, size_t length);
+pruvelaccio_size_answer pruvelaccio_read_octets(const uint8_t *datagram, size_t length, void *header);
 size_t pruvelaccio_data_start(const uint8_t *datagram, size_t length);
-pruvelaccio_size_answer pruvelaccio_check_value(pruvelaccio_header header, size_t count);
-pruvelaccio_size_answer pruvelaccio_write_value(pruvelaccio_header header, size_t count, uint8_t *out,
-                                                size_t room);
+pruvelaccio_size_answer pruvelaccio_check_octets(const void *header, size_t count);
+pruvelaccio_size_answer pruvelaccio_write_octets(const void *header, size_t count, uint8_t *out, size_t room);
 pruvelaccio_table pruvelaccio_empty_value(void);
-pruvelaccio_table_answer pruvelaccio_post_value(pruvelaccio_table table, pruvelaccio_header header,
-                                                uint32_t number, size_t count);
-pruvelaccio_table_answer pruvelaccio_receipt_value(pruvelaccio_table table, pruvelaccio_header header,
+pruvelaccio_table_answer pruvelaccio_post_value(pruvelaccio_table table, const void *header, uint32_t number,
+                                                size_t count);
+pruvelaccio_table_answer pruvelaccio_receipt_value(pruvelaccio_table table, const void *header,
                                                    uint32_t number, size_t count);
 pruvelaccio_table_answer pruvelaccio_release_value(pruvelaccio_table table, pruvelaccio_key key);
 pruvelaccio_size_answer pruvelaccio_list_row_value(pruvelaccio_table table, uint32_t number, uint8_t *out,
@@ -381,17 +383,18 @@ static inline pruvelaccio_answer pruvelaccio_take_table(const pruvelaccio_table_
     return answer;
 }
 
-/* Reads a datagram into the record; unused cells are 0. The length is the header's, fill bits included. */
+/*
+ * Reads a datagram into the record where it lies. Done, every octet of the record is determined: flags are 0
+ * or 1, unused cells and the octets between the cells are 0. Refused, the record is as it was. The length is
+ * the header's, fill bits included.
+ */
 static inline pruvelaccio_answer pruvelaccio_read(const uint8_t *datagram, size_t length,
                                                   pruvelaccio_header *header, size_t *header_length)
 {
-    const pruvelaccio_read_answer got = pruvelaccio_read_value(pruvelaccio_lent(datagram), length);
+    const pruvelaccio_size_answer got = pruvelaccio_read_octets(pruvelaccio_lent(datagram), length, header);
     pruvelaccio_answer answer = {got.number, got.place};
-    if (got.number == 0) {
-        *header = got.header;
-        if (header_length != NULL) {
-            *header_length = got.length;
-        }
+    if (got.number == 0 && header_length != NULL) {
+        *header_length = got.length;
     }
     return answer;
 }
@@ -414,7 +417,7 @@ static inline const uint8_t *pruvelaccio_user_data(const uint8_t *datagram, size
 static inline pruvelaccio_answer pruvelaccio_check(const pruvelaccio_header *header, size_t count,
                                                    size_t *header_length)
 {
-    return pruvelaccio_take_size(pruvelaccio_check_value(*header, count), header_length);
+    return pruvelaccio_take_size(pruvelaccio_check_octets(header, count), header_length);
 }
 
 /* Writes a record's header to the first octets of the output. No other octet of the output changes. */
@@ -423,7 +426,7 @@ static inline pruvelaccio_answer pruvelaccio_write(const pruvelaccio_header *hea
 {
     uint8_t none = 0;
     uint8_t *lent = out != NULL ? out : &none;
-    return pruvelaccio_take_size(pruvelaccio_write_value(*header, count, lent, room), written);
+    return pruvelaccio_take_size(pruvelaccio_write_octets(header, count, lent, room), written);
 }
 
 /* Makes a table with no row. */
@@ -436,7 +439,7 @@ static inline void pruvelaccio_empty(pruvelaccio_table *table)
 static inline pruvelaccio_answer pruvelaccio_post(pruvelaccio_table *table, const pruvelaccio_header *header,
                                                   uint32_t number, size_t count)
 {
-    const pruvelaccio_table_answer got = pruvelaccio_post_value(*table, *header, number, count);
+    const pruvelaccio_table_answer got = pruvelaccio_post_value(*table, header, number, count);
     return pruvelaccio_take_table(&got, table);
 }
 
@@ -445,7 +448,7 @@ static inline pruvelaccio_answer pruvelaccio_receipt(pruvelaccio_table *table,
                                                      const pruvelaccio_header *header, uint32_t number,
                                                      size_t count)
 {
-    const pruvelaccio_table_answer got = pruvelaccio_receipt_value(*table, *header, number, count);
+    const pruvelaccio_table_answer got = pruvelaccio_receipt_value(*table, header, number, count);
     return pruvelaccio_take_table(&got, table);
 }
 
@@ -471,13 +474,107 @@ static inline pruvelaccio_answer pruvelaccio_list_row(const pruvelaccio_table *t
 
 /*
  * Structs from octets that come from outside, as from a file or from shared memory, in the struct's own
- * layout. A loader tests the size and that every flag is 0 or 1, those of unused cells too. If so it stores
- * the struct and returns true; otherwise it stores nothing and returns false. What the struct says is not
- * judged here: that is done by each call.
+ * layout. A loader tests the size; for a table and a key it tests also that every flag is 0 or 1, those of
+ * unused cells too. If so it stores the struct and returns true; otherwise it stores nothing and returns
+ * false. A record's flags need no test: each that is not 0 becomes 1, so that C can look at it. What the
+ * struct says is not judged here: that is done by each call.
  */
 
-/* How many flags a list of their offsets names. */
-#define PRUVELACCIO_FLAGS(offsets) (sizeof(offsets) / sizeof((offsets)[0]))
+/*
+ * Each octet is fetched once, and what is tested is what is stored: memory that another process changes
+ * meanwhile cannot slip a bad flag in between the two.
+ */
+static inline void pruvelaccio_fetch(unsigned char *copy, const void *octets, size_t size)
+{
+    const volatile unsigned char *from = (const volatile unsigned char *)octets;
+    for (size_t i = 0; i < size; i++) {
+        copy[i] = from[i];
+    }
+}
+
+/* How many flags a list of them, or of their offsets, names. */
+#define PRUVELACCIO_FLAGS(list) (sizeof(list) / sizeof((list)[0]))
+
+/* A flag is set unless its octet is 0; a bool of C that is set holds 1. */
+static inline void pruvelaccio_settle(bool *flag)
+{
+    unsigned char *octet = (unsigned char *)flag;
+    *octet = *octet != 0;
+}
+
+static inline void pruvelaccio_settle_address(pruvelaccio_address *address)
+{
+    pruvelaccio_settle(&address->urn.present);
+    pruvelaccio_settle(&address->name.present);
+}
+
+static inline void pruvelaccio_settle_addresses(pruvelaccio_optional_addresses *group)
+{
+    pruvelaccio_settle(&group->present);
+    for (size_t i = 0; i < PRUVELACCIO_ADDRESSEES; i++) {
+        pruvelaccio_settle_address(&group->addresses.list[i]);
+    }
+}
+
+static inline void pruvelaccio_settle_references(pruvelaccio_optional_references *group)
+{
+    pruvelaccio_settle(&group->present);
+    for (size_t i = 0; i < PRUVELACCIO_REFERENCES; i++) {
+        pruvelaccio_settle_address(&group->references.list[i].address);
+        pruvelaccio_settle(&group->references.list[i].stamp.extension.present);
+    }
+}
+
+static inline void pruvelaccio_settle_block(pruvelaccio_block *block)
+{
+    bool *const flags[] = {
+        &block->format.version.present,
+        &block->format.identity.present,
+        &block->format.identity.identity.subtype.present,
+        &block->format.file.present,
+        &block->handling.size.present,
+        &block->handling.marking.present,
+        &block->times.origin.present,
+        &block->times.origin.stamp.extension.present,
+        &block->times.perish.present,
+        &block->times.requests.present,
+        &block->times.requests.requests.machine,
+        &block->times.requests.requests.acknowledge,
+        &block->times.requests.requests.reply,
+        &block->response.present,
+        &block->response.response.stamp.extension.present,
+        &block->response.response.compliance.cantco.present,
+        &block->response.response.compliance.cantpro.present,
+        &block->response.response.amplification.present,
+    };
+    for (size_t i = 0; i < PRUVELACCIO_FLAGS(flags); i++) {
+        pruvelaccio_settle(flags[i]);
+    }
+    pruvelaccio_settle_references(&block->references);
+}
+
+static inline void pruvelaccio_settle_header(pruvelaccio_header *header)
+{
+    pruvelaccio_settle(&header->front.compression.present);
+    pruvelaccio_settle(&header->front.originator.present);
+    pruvelaccio_settle_address(&header->front.originator.address);
+    pruvelaccio_settle_addresses(&header->front.recipients);
+    pruvelaccio_settle_addresses(&header->front.information);
+    pruvelaccio_settle(&header->sized);
+    for (size_t i = 0; i < PRUVELACCIO_BLOCKS; i++) {
+        pruvelaccio_settle_block(&header->blocks.list[i]);
+    }
+}
+
+static inline bool pruvelaccio_load_header(pruvelaccio_header *to, const void *octets, size_t size)
+{
+    if (size != sizeof(*to)) {
+        return false;
+    }
+    pruvelaccio_fetch((unsigned char *)to, octets, sizeof(*to));
+    pruvelaccio_settle_header(to);
+    return true;
+}
 
 /*
  * Whether the flags at the given offsets hold 0 or 1 in each of `count` structs that stand one behind the
@@ -494,7 +591,7 @@ static inline bool pruvelaccio_flags_hold(const unsigned char *octets, size_t co
     return true;
 }
 
-/* Addresses that stand `stride` octets apart: in a list of their own, or at the head of each recipient. */
+/* Addresses that stand `stride` octets apart: one alone, or at the head of each recipient. */
 static inline bool pruvelaccio_flags_of_addresses(const unsigned char *octets, size_t count, size_t stride)
 {
     static const size_t offsets[] = {
@@ -502,73 +599,6 @@ static inline bool pruvelaccio_flags_of_addresses(const unsigned char *octets, s
         offsetof(pruvelaccio_address, name.present),
     };
     return pruvelaccio_flags_hold(octets, count, stride, offsets, PRUVELACCIO_FLAGS(offsets));
-}
-
-static inline bool pruvelaccio_flags_of_references(const unsigned char *list)
-{
-    static const size_t offsets[] = {
-        offsetof(pruvelaccio_reference, address.urn.present),
-        offsetof(pruvelaccio_reference, address.name.present),
-        offsetof(pruvelaccio_reference, stamp.extension.present),
-    };
-    return pruvelaccio_flags_hold(list, PRUVELACCIO_REFERENCES, sizeof(pruvelaccio_reference), offsets,
-                                  PRUVELACCIO_FLAGS(offsets));
-}
-
-static inline bool pruvelaccio_flags_of_block(const unsigned char *block)
-{
-    static const size_t offsets[] = {
-        offsetof(pruvelaccio_block, format.version.present),
-        offsetof(pruvelaccio_block, format.identity.present),
-        offsetof(pruvelaccio_block, format.identity.identity.subtype.present),
-        offsetof(pruvelaccio_block, format.file.present),
-        offsetof(pruvelaccio_block, handling.size.present),
-        offsetof(pruvelaccio_block, handling.marking.present),
-        offsetof(pruvelaccio_block, times.origin.present),
-        offsetof(pruvelaccio_block, times.origin.stamp.extension.present),
-        offsetof(pruvelaccio_block, times.perish.present),
-        offsetof(pruvelaccio_block, times.requests.present),
-        offsetof(pruvelaccio_block, times.requests.requests.machine),
-        offsetof(pruvelaccio_block, times.requests.requests.acknowledge),
-        offsetof(pruvelaccio_block, times.requests.requests.reply),
-        offsetof(pruvelaccio_block, response.present),
-        offsetof(pruvelaccio_block, response.response.stamp.extension.present),
-        offsetof(pruvelaccio_block, response.response.compliance.cantco.present),
-        offsetof(pruvelaccio_block, response.response.compliance.cantpro.present),
-        offsetof(pruvelaccio_block, response.response.amplification.present),
-        offsetof(pruvelaccio_block, references.present),
-    };
-    return pruvelaccio_flags_hold(block, 1, 0, offsets, PRUVELACCIO_FLAGS(offsets)) &&
-           pruvelaccio_flags_of_references(block + offsetof(pruvelaccio_block, references.references.list));
-}
-
-static inline bool pruvelaccio_flags_of_front(const unsigned char *front)
-{
-    static const size_t offsets[] = {
-        offsetof(pruvelaccio_front, compression.present),
-        offsetof(pruvelaccio_front, originator.present),
-        offsetof(pruvelaccio_front, originator.address.urn.present),
-        offsetof(pruvelaccio_front, originator.address.name.present),
-        offsetof(pruvelaccio_front, recipients.present),
-        offsetof(pruvelaccio_front, information.present),
-    };
-    const size_t recipients = offsetof(pruvelaccio_front, recipients.addresses.list);
-    const size_t information = offsetof(pruvelaccio_front, information.addresses.list);
-    const size_t stride = sizeof(pruvelaccio_address);
-    return pruvelaccio_flags_hold(front, 1, 0, offsets, PRUVELACCIO_FLAGS(offsets)) &&
-           pruvelaccio_flags_of_addresses(front + recipients, PRUVELACCIO_ADDRESSEES, stride) &&
-           pruvelaccio_flags_of_addresses(front + information, PRUVELACCIO_ADDRESSEES, stride);
-}
-
-static inline bool pruvelaccio_flags_of_header(const unsigned char *header)
-{
-    const unsigned char *blocks = header + offsetof(pruvelaccio_header, blocks.list);
-    bool hold = pruvelaccio_flags_of_front(header + offsetof(pruvelaccio_header, front)) &&
-                header[offsetof(pruvelaccio_header, sized)] <= 1;
-    for (size_t i = 0; hold && i < PRUVELACCIO_BLOCKS; i++) {
-        hold = pruvelaccio_flags_of_block(blocks + i * sizeof(pruvelaccio_block));
-    }
-    return hold;
 }
 
 static inline bool pruvelaccio_flags_of_key(const unsigned char *key)
@@ -599,32 +629,6 @@ static inline bool pruvelaccio_flags_of_table(const unsigned char *table)
         hold = pruvelaccio_flags_of_row(rows + i * sizeof(pruvelaccio_row));
     }
     return hold;
-}
-
-/*
- * Each octet is fetched once, and what is tested is what is stored: memory that another process changes
- * meanwhile cannot slip a bad flag in between the two.
- */
-static inline void pruvelaccio_fetch(unsigned char *copy, const void *octets, size_t size)
-{
-    const volatile unsigned char *from = (const volatile unsigned char *)octets;
-    for (size_t i = 0; i < size; i++) {
-        copy[i] = from[i];
-    }
-}
-
-static inline bool pruvelaccio_load_header(pruvelaccio_header *to, const void *octets, size_t size)
-{
-    unsigned char copy[sizeof(pruvelaccio_header)];
-    if (size != sizeof(copy)) {
-        return false;
-    }
-    pruvelaccio_fetch(copy, octets, sizeof(copy));
-    if (!pruvelaccio_flags_of_header(copy)) {
-        return false;
-    }
-    memcpy(to, copy, sizeof(copy));
-    return true;
 }
 
 static inline bool pruvelaccio_load_table(pruvelaccio_table *to, const void *octets, size_t size)

@@ -170,11 +170,6 @@ static void pending(void)
 /* What the library's own functions answer. */
 static void answers(void)
 {
-    SIZE(read_answer);
-    FIELD(read_answer, number);
-    FIELD(read_answer, place);
-    FIELD(read_answer, length);
-    FIELD(read_answer, header);
     SIZE(size_answer);
     FIELD(size_answer, number);
     FIELD(size_answer, place);

@@ -11,7 +11,7 @@
 
 #include "pruvelaccio.h"
 
-/* Memory that no call may take for something of its own. */
+/* Memory that no call may take for something of its own. As a record it is some record: every flag is set. */
 #define PATTERN 0xA5
 /* A pattern that a struct by value may hold: every flag is 1, and every number 16,843,009. */
 #define ONES 0x01
@@ -172,7 +172,6 @@ static void nothing_else_changed(call made, const char *what)
 static void set_up(void)
 {
     memset(&now, PATTERN, sizeof(now));
-    memset(&now.header, 0, sizeof(now.header));
     memset(&now.key, ONES, sizeof(now.key));
     pruvelaccio_empty(&now.table);
     pruvelaccio_read(message, sizeof(message), &now.header, NULL);
@@ -241,6 +240,22 @@ static void reading_too_many(void)
     refused(read_call, "seventeen recipients", 0, written, expected);
 }
 
+/* How many octets of a record are not 0. */
+static size_t octets_used(const pruvelaccio_header *header)
+{
+    const unsigned char *octets = (const unsigned char *)header;
+    size_t used = 0;
+    for (size_t i = 0; i < sizeof(*header); i++) {
+        used += octets[i] != 0 ? 1 : 0;
+    }
+    return used;
+}
+
+/*
+ * Of B's record 19 octets are not 0: version, URN 207 with two presences, count and presence of the
+ * recipients with a URN and its presence, UMF, G5's presence and its six numbers, G7's presence and machine
+ * request, and the count of blocks. All others lose the pattern that was there.
+ */
 static void reading_done(void)
 {
     memset(&now, PATTERN, sizeof(now));
@@ -248,6 +263,7 @@ static void reading_done(void)
     done(read_call, "a message", 0, sizeof(message));
     expect("read", "URN 207", now.header.front.originator.address.urn.value == 207);
     expect("read", "machine request", now.header.blocks.list[0].times.requests.requests.machine);
+    expect("read", "every other octet 0", octets_used(&now.header) == 19);
     memcpy(&before.header, &now.header, sizeof(now.header));
     before.size = MESSAGE_HEADER;
     nothing_else_changed(read_call, "a message: the record and the length alone");
@@ -294,6 +310,24 @@ static void spoil_count(pruvelaccio_header *header)
     header->blocks.count = 0xFFFFFFFF;
 }
 
+static void spoil_recipients(pruvelaccio_header *header)
+{
+    header->front.recipients.addresses.count = 0xA5A5A5A5;
+}
+
+/* With the one recipient the sum is 0. */
+static void spoil_information(pruvelaccio_header *header)
+{
+    header->front.information.present = true;
+    header->front.information.addresses.count = 0xFFFFFFFF;
+}
+
+static void spoil_references(pruvelaccio_header *header)
+{
+    header->blocks.list[0].references.present = true;
+    header->blocks.list[0].references.references.count = 0xA5A5A5A5;
+}
+
 static void spoil_address(pruvelaccio_header *header)
 {
     header->front.originator.address.name.present = true;
@@ -306,7 +340,13 @@ static void spoil_originator(pruvelaccio_header *header)
 
 static void spoil_all(pruvelaccio_header *header)
 {
-    memset(header, ONES, sizeof(*header));
+    memset(header, PATTERN, sizeof(*header));
+}
+
+static void spoil_all_but_version(pruvelaccio_header *header)
+{
+    spoil_all(header);
+    header->front.version = 2;
 }
 
 typedef struct record_case {
@@ -318,10 +358,14 @@ typedef struct record_case {
 
 static const record_case record_cases[] = {
     {"version 1", spoil_version, MESSAGE_DATA, 2},
-    {"every cell a pattern", spoil_all, MESSAGE_DATA, 2},
+    {"every octet a pattern", spoil_all, MESSAGE_DATA, 2},
+    {"every octet a pattern but the version's", spoil_all_but_version, MESSAGE_DATA, 3},
     {"UMF 9", spoil_format, MESSAGE_DATA, 3},
     {"a name of no characters", spoil_name, MESSAGE_DATA, 4},
     {"4,294,967,295 blocks", spoil_count, MESSAGE_DATA, 5},
+    {"2,779,096,485 recipients", spoil_recipients, MESSAGE_DATA, 5},
+    {"4,294,967,295 information addressees", spoil_information, MESSAGE_DATA, 5},
+    {"2,779,096,485 references", spoil_references, MESSAGE_DATA, 5},
     {"both forms of an address", spoil_address, MESSAGE_DATA, 6},
     {"requests without an originator", spoil_originator, MESSAGE_DATA, 8},
     {"no data", as_it_is, 0, 10},
@@ -338,21 +382,26 @@ static void records_refused(call made)
     }
 }
 
+/* B's record is checked and written as B. */
+static void written(const char *what)
+{
+    done(check_call, what, 0, MESSAGE_DATA);
+    before.size = MESSAGE_HEADER;
+    nothing_else_changed(check_call, "a message: the length alone");
+    room = MESSAGE_HEADER;
+    done(write_call, what, 0, MESSAGE_DATA);
+    memcpy(before.out, message, MESSAGE_HEADER);
+    before.size = MESSAGE_HEADER;
+    nothing_else_changed(write_call, "a message: the header's octets and their count alone");
+}
+
 static void writing(void)
 {
     set_up();
     room = MESSAGE_HEADER - 1;
     refused_at_0(write_call, "an octet of room too few", 0, MESSAGE_DATA, 11);
-    room = MESSAGE_HEADER;
-    done(write_call, "a message", 0, MESSAGE_DATA);
-    memcpy(before.out, message, MESSAGE_HEADER);
-    before.size = MESSAGE_HEADER;
-    nothing_else_changed(write_call, "a message: the header's octets and their count alone");
-
     set_up();
-    done(check_call, "a message", 0, MESSAGE_DATA);
-    before.size = MESSAGE_HEADER;
-    nothing_else_changed(check_call, "a message: the length alone");
+    written("a message");
 }
 
 /*
@@ -468,6 +517,69 @@ static void listing(void)
     listed("a row behind the last", 2, "");
 }
 
+/*
+ * Octets as they are: flags that are neither 0 nor 1, and a record at any address.
+ */
+
+/*
+ * Each flag of the record that is 1 gets another octet. Which octets are flags the loader shows: of octets
+ * that are all 2 it makes each flag a 1.
+ */
+static void set_flags(unsigned char octet)
+{
+    static unsigned char twos[sizeof(pruvelaccio_header)];
+    static pruvelaccio_header loaded_twos;
+    unsigned char *record = (unsigned char *)&now.header;
+    memset(twos, 2, sizeof(twos));
+    pruvelaccio_load_header(&loaded_twos, twos, sizeof(twos));
+    const unsigned char *flags = (const unsigned char *)&loaded_twos;
+    for (size_t i = 0; i < sizeof(now.header); i++) {
+        if (flags[i] == 1 && record[i] == 1) {
+            record[i] = octet;
+        }
+    }
+}
+
+/* A posting and its receipt with such flags leave the row that they leave with flags of 1. */
+static void entered(unsigned char octet)
+{
+    set_up();
+    set_flags(octet);
+    done(post_call, "flags that are not 1", 1, MESSAGE_DATA);
+    pruvelaccio_read(receipt, sizeof(receipt), &now.header, NULL);
+    set_flags(octet);
+    done(receipt_call, "flags that are not 1", 1, 0);
+    listed("rows by flags that are not 1", 0, "rows 1\n");
+    listed("a row by flags that are not 1", 1, "207 96-07-03 16:27:55 - asked m\n  3 m=1\n");
+}
+
+static void flags_other_than_1(void)
+{
+    static const unsigned char others[] = {2, 3, 0x80, 0xFF};
+    for (size_t i = 0; i < LENGTH(others); i++) {
+        set_up();
+        set_flags(others[i]);
+        const unsigned char *flag = (const unsigned char *)&now.header.front.originator.present;
+        expect("set_flags", "a flag that is not 1", *flag == others[i]);
+        written("flags that are not 1");
+        entered(others[i]);
+    }
+}
+
+static void at_an_odd_address(void)
+{
+    static uint8_t place[sizeof(pruvelaccio_header) + 1];
+    uint8_t *record = (uintptr_t)place % 2 == 0 ? place + 1 : place;
+    set_up();
+    const pruvelaccio_size_answer got = pruvelaccio_read_octets(message, sizeof(message), record);
+    expect("read_octets", "an odd address", got.number == 0 && got.length == MESSAGE_HEADER);
+    expect("read_octets", "the same record", memcmp(record, &now.header, sizeof(now.header)) == 0);
+    const pruvelaccio_size_answer checked = pruvelaccio_check_octets(record, MESSAGE_DATA);
+    expect("check_octets", "an odd address", checked.number == 0 && checked.length == MESSAGE_HEADER);
+    const pruvelaccio_size_answer put = pruvelaccio_write_octets(record, MESSAGE_DATA, now.out, room);
+    expect("write_octets", "an odd address", put.number == 0 && memcmp(now.out, message, put.length) == 0);
+}
+
 /* NULL with length 0, and sizes that are not wanted. */
 static void without_octets(void)
 {
@@ -516,9 +628,9 @@ static bool load_key(size_t size)
     return pruvelaccio_load_key(&now.key, octets, size);
 }
 
-/* Header: 7 flags of its own, 2 in each of 32 addressees, 31 in each of 16 blocks. Table: 38 in each row. */
+/* How many flags are tested: none of a record, 38 in each row of a table. */
 static const loader loaders[] = {
-    {"load_header", load_header, sizeof(pruvelaccio_header), &now.header, 7 + 32 * 2 + 16 * 31},
+    {"load_header", load_header, sizeof(pruvelaccio_header), &now.header, 0},
     {"load_table", load_table, sizeof(pruvelaccio_table), &now.table, 32 * 38},
     {"load_key", load_key, sizeof(pruvelaccio_key), &now.key, 3},
 };
@@ -563,33 +675,65 @@ static void loading(const loader *one)
     not_loaded(one, "an octet too few", one->size - 1);
     not_loaded(one, "an octet too many", one->size + 1);
     not_loaded(one, "no octet", 0);
-    memset(octets, PATTERN, sizeof(octets));
-    not_loaded(one, "every octet a pattern", one->size);
     memset(octets, 0, sizeof(octets));
     loaded(one, "every octet 0");
     flags_tested(one);
+    if (one->flags > 0) {
+        memset(octets, PATTERN, sizeof(octets));
+        not_loaded(one, "every octet a pattern", one->size);
+    }
 }
 
-static void flag_refused(const loader *one, const char *what, size_t offset)
+/* The last flag of a table, by its name. */
+static void last_flag_refused(void)
 {
+    const size_t row = offsetof(pruvelaccio_table, rows[PRUVELACCIO_ROWS - 1]);
     memset(octets, 0, sizeof(octets));
-    octets[offset] = 2;
-    not_loaded(one, what, one->size);
+    octets[row + offsetof(pruvelaccio_row, recipients[15].address.name.present)] = 2;
+    not_loaded(&loaders[1], "the last row's last recipient's", sizeof(pruvelaccio_table));
 }
 
-/* The last flag of each kind of list, by its name. */
-static void last_flags_refused(void)
+/* A flag of a record becomes 1, whatever octet but 0 is there. */
+static void flag_settled(const char *what, size_t offset)
+{
+    const unsigned char *record = (const unsigned char *)&now.header;
+    memset(octets, 0, sizeof(octets));
+    octets[offset] = PATTERN;
+    expect("load_header", what, load_header(sizeof(pruvelaccio_header)) && record[offset] == 1);
+}
+
+/* The last flag of each kind of list of a record, by its name. */
+static void last_flags_settled(void)
 {
     const size_t block = offsetof(pruvelaccio_header, blocks.list[PRUVELACCIO_BLOCKS - 1]);
-    const size_t row = offsetof(pruvelaccio_table, rows[PRUVELACCIO_ROWS - 1]);
-    flag_refused(&loaders[0], "the last recipient's",
+    flag_settled("the last recipient's",
                  offsetof(pruvelaccio_header, front.recipients.addresses.list[15].name.present));
-    flag_refused(&loaders[0], "the last information addressee's",
+    flag_settled("the last information addressee's",
                  offsetof(pruvelaccio_header, front.information.addresses.list[15].name.present));
-    flag_refused(&loaders[0], "the last block's last reference's",
+    flag_settled("the last block's amplification's",
+                 block + offsetof(pruvelaccio_block, response.response.amplification.present));
+    flag_settled("the last block's last reference's",
                  block + offsetof(pruvelaccio_block, references.references.list[3].stamp.extension.present));
-    flag_refused(&loaders[1], "the last row's last recipient's",
-                 row + offsetof(pruvelaccio_row, recipients[15].address.name.present));
+}
+
+/* Of a record's octets the flags alone change: 7 of its own, 2 in each of 32 addressees, 31 in each block. */
+static void flags_settled(void)
+{
+    const unsigned char *record = (const unsigned char *)&now.header;
+    size_t settled = 0;
+    size_t changed = 0;
+    memset(&now, PATTERN, sizeof(now));
+    memcpy(&before, &now, sizeof(now));
+    memset(octets, PATTERN, sizeof(octets));
+    expect("load_header", "every octet a pattern", load_header(sizeof(pruvelaccio_header)));
+    for (size_t i = 0; i < sizeof(pruvelaccio_header); i++) {
+        settled += record[i] == 1 ? 1 : 0;
+        changed += record[i] != PATTERN ? 1 : 0;
+    }
+    expect("load_header", "every flag 1", settled == 7 + 32 * 2 + 16 * 31 && changed == settled);
+    memset(&now.header, PATTERN, sizeof(now.header));
+    expect("load_header", "the record alone", memcmp(&now, &before, sizeof(now)) == 0);
+    last_flags_settled();
 }
 
 static void calls_with_records(void)
@@ -623,11 +767,14 @@ int main(void)
     user_data_handed_back();
     calls_with_records();
     calls_with_tables();
+    flags_other_than_1();
+    at_an_odd_address();
     without_octets();
     for (size_t i = 0; i < LENGTH(loaders); i++) {
         loading(&loaders[i]);
     }
-    last_flags_refused();
+    last_flag_refused();
+    flags_settled();
     printf("wrappers: %u expectations, %u failed\n", cases, failures);
     return failures == 0 ? EXIT_SUCCESS : EXIT_FAILURE;
 }

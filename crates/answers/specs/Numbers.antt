@@ -3,12 +3,11 @@ use Prim.Native.Nat.{ℕ}
 use Rattle.reader.specs.Told.{Told}
 use Rattle.writer.specs.Writing as writer
 use Rattle.listing.specs.Listing as listing
-use Rattle.answers.specs.declared.ReadAnswer.{ReadAnswer}
 use Rattle.answers.specs.declared.SizeAnswer.{SizeAnswer}
 
--- of a reading: the header's octets and the record; refused, 0 and the zero record, as `toTell` has it
-unfoldable pub readNumbers : Told → ReadAnswer
-readNumbers t = record { number = t .number; place = t .place; length = t .octets; header = t .header }
+-- of a reading: the header's octets; refused, 0, as `toTell` has it
+unfoldable pub readNumbers : Told → SizeAnswer
+readNumbers t = record { number = t .number; place = t .place; length = t .octets }
 
 -- a size in octets, and no refusal
 abbrev pub sized : ℕ → SizeAnswer

@@ -11,7 +11,6 @@ use arguments::PendingFault;
 use bits::BitPlace;
 use bits::OctetSize;
 use codec::Fault;
-use header::Header;
 use listing::Listed;
 use listing::ListingFault;
 use reader::HeaderRead;
@@ -20,17 +19,7 @@ use table::Table;
 use transitions::TableAfter;
 use writer::Written;
 
-// A reading: number 0, the header's octets and the record; or a refusal's number and place, length 0
-// and the zero record.
-#[repr(C)]
-pub struct ReadAnswer {
-    pub number: u32,
-    pub place: usize,
-    pub length: usize,
-    pub header: Header,
-}
-
-// The check, writing and the listing: number 0 and a size in octets; or a refusal's number and place,
+// Reading, the check, writing and the listing: number 0 and a size in octets; or a refusal's number and place,
 // and size 0.
 #[repr(C)]
 pub struct SizeAnswer {
@@ -156,17 +145,15 @@ fn outcome_place(o: Outcome) -> BitPlace
     }
 }
 
-pub fn of_reading(a: HeaderRead) -> ReadAnswer
+pub fn of_reading(a: HeaderRead) -> SizeAnswer
     ensures { λ r. ⌜ r ≡ readNumbers (told a) ⌝ }
 {
     let outcome = a.outcome;
-    let header = a.header;
     let place = outcome_place(outcome);
-    ReadAnswer {
+    SizeAnswer {
         number: outcome_number(outcome),
         place: place.0,
         length: a.length.0,
-        header: header,
     }
 }
 

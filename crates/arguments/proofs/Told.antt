@@ -1,5 +1,5 @@
 -- The refusals that a call's arguments alone decide, way by way. Assumes nothing.
-use Prim.Native.Nat.{ℕ, zero, suc, _-_, _<_}
+use Prim.Native.Nat.{ℕ, zero, suc, _-_, _<_, _≤_}
 use mathlib.Core.Path.{_≡_, refl, ap, sym, _∙_}
 use mathlib.Core.Bool.{Bool, true, false, _&&_, _||_}
 use mathlib.Core.List.{List, [], _∷_}
@@ -8,19 +8,22 @@ use lib.Dec.{lit<}
 use native.Mathlib.Omega.{arith}
 use denote.Enum.Declared.{tagOf}
 use Rattle.codec.specs.Answer.{pick}
-use Rattle.codec.specs.Codec.{first}
+use Rattle.codec.specs.Codec.{first, viewed}
 use Rattle.codec.specs.Refusals.{checkNo, faultNo}
 use Rattle.codec.specs.declared.Check.{Check}
 use Rattle.codec.proofs.Check as check
 use Rattle.codec.specs.declared.Fault.{Fault}
 use Rattle.codec.proofs.Told.{fault-positive, first-refusal}
+use Rattle.codec.proofs.ListEnds.{count-most}
 use Rattle.bits.specs.declared.BitPlace.{BitPlace}
 use Rattle.header.specs.declared.Block.{Block}
 use Rattle.header.specs.declared.Header.{Header}
 use Rattle.writer.specs.Writing.{Writing, done, rejected, answered, checking, faultOf, headerSize, told}
 use Rattle.writer.specs.declared.Written.{Written}
 use Rattle.writer.proofs.Written as written
-use Rattle.writer.proofs.Ways.{not-done}
+use Rattle.writer.proofs.Ways.{not-done, valid-fields}
+use Rattle.writer.proofs.Parts.{blocks-legal}
+use Rattle.header.specs.Table.{block, blocks}
 use Rattle.header.specs.Zero.{noBlock}
 use Rattle.arguments.specs.Arguments.{hasBlock, blockAt}
 use Rattle.arguments.specs.Told.{pendingNo, answerNo, writtenNo}
@@ -63,6 +66,11 @@ pub block-is : (h : Header) (n : ℕ) (d : Block) → hasBlock h n ≡ true → 
 unfolding blockAt
 block-is h zero d e l = let z : _≡_ {A = ℕ} 0 1 = cc in absurd (omega arith)
 block-is h (suc i) d e l = let k : suc i - 1 ≡ i = omega arith in any-default (h .blocks .list) (suc i - 1) d noBlock l ∙ rw k
+
+-- the block at hand is that block, in a record that is valid
+pub block-named : (h : Header) (n count : ℕ) (b : Block) → faultOf h count ≡ 0 → hasBlock h n ≡ true → (hasBlock h n ≡ true → h .blocks .count ≤ 16 → b ≡ blockAt h n) → b ≡ blockAt h n
+unfolding blocks viewed
+block-named h n count b v e is = is e (count-most noBlock block 16 15 _ _ (blocks-legal h (valid-fields h count v)))
 
 -- ---- the writer's answer
 

@@ -2,16 +2,36 @@
 ghost use mathlib.Core.Path.{_≡_};
 ghost use mathlib.Core.Bool.{true, _&&_};
 ghost use Prim.Native.Nat.{_+_, _<_, _≤_};
+ghost use lib.ListN.{length};
 ghost use Rattle.codec.specs.Refusals.{checkNo};
+ghost use Rattle.record_octets.specs.Record.{sizeOfBlock, blockIn, sizeOfHeader, headerIn};
 ghost use Rattle.arguments.specs.Arguments.{hasBlock, blockAt, asks, someRecipient, oneRecipient, postingKey, receiptKey, postingFault, receiptFault};
 ghost use Rattle.arguments.specs.Told.{pendingNo, answerNo, answerPlace, writtenNo};
 use bits::BitPlace;
 use bits::OctetSize;
+use cells::entry;
+use cells::load_flag;
+use cells::load_word;
 use codec::Check;
 use codec::Fault;
-use header::Block;
-use header::Header;
+use leaves::block::asks_acknowledge;
+use leaves::block::asks_machine;
+use leaves::block::asks_reply;
+use leaves::block::has_requests;
+use leaves::block::has_response;
+use leaves::setting::block_count;
+use leaves::setting::has_originator;
+use loads::record::load_answered;
+use loads::record::load_first_recipient;
+use loads::record::load_origin;
+use loads::record::load_originator;
 use order::Key;
+use record_octets::RECORD;
+use record_octets::in_addresses;
+use record_octets::in_blocks;
+use record_octets::in_front;
+use record_octets::in_header;
+use record_octets::in_optional_addresses;
 use writer::Written;
 
 // Why a call is refused. The record's own faults, and a key's, are the writer's.
@@ -63,10 +83,11 @@ pub fn by_check(fault: Check) -> Answer
 }
 
 // Whether there is a block with this number, counted from 1.
-pub fn has_block(h: Header, number: u32) -> bool
-    ensures { λ r. ⌜ r ≡ hasBlock h number ⌝ }
+pub fn has_block(h: &[u8], number: u32) -> bool
+    requires { ⌜ length (now h) ≡ sizeOfHeader ⌝ }
+    ensures { λ r. ⌜ r ≡ hasBlock (headerIn (now (h .entry))) number ⌝ }
 {
-    let count = h.blocks.count;
+    let count = block_count(h);
     if number < 1 {
         return false;
     }
@@ -86,69 +107,87 @@ fn cell_of(number: u32) -> usize
     number as usize - 1
 }
 
-// That block, of a record with at most 16; some other cell where the record has no such block.
-pub fn block_at(h: Header, number: u32) -> Block
-    ensures { λ r. ⌜ (hasBlock h number ≡ true → h .blocks .count ≤ 16 → r ≡ blockAt h number) ⌝ }
+// That block's octets, of a record with at most 16; some other cell where the record has no such block.
+pub fn block_at(h: &[u8], number: u32) -> &[u8]
+    requires { ⌜ length (now h) ≡ sizeOfHeader ⌝ }
+    ensures { λ r. ⌜ (length (now r) ≡ sizeOfBlock) × (hasBlock (headerIn (now (h .entry))) number ≡ true → headerIn (now (h .entry)) .blocks .count ≤ 16 → blockIn (now r) ≡ blockAt (headerIn (now (h .entry))) number) ⌝ }
 {
-    let list = h.blocks.list;
+    let blocks = &h[in_header::BLOCKS..in_header::END];
+    let list = &blocks[in_blocks::LIST..in_blocks::COUNT];
     let i = cell_of(number);
-    list[i]
+    entry(list, i, in_blocks::ENTRY)
 }
 
 // Whether any request of G7 is set.
-pub fn asks_any(b: Block) -> bool
-    ensures { λ r. ⌜ r ≡ asks b ⌝ }
+pub fn asks_any(b: &[u8]) -> bool
+    requires { ⌜ length (now b) ≡ sizeOfBlock ⌝ }
+    ensures { λ r. ⌜ r ≡ asks (blockIn (now (b .entry))) ⌝ }
 {
-    let g = b.times.requests;
-    let present = g.present;
-    if !present {
+    if !has_requests(b) {
         return false;
     }
-    let machine = g.requests.machine;
-    let acknowledge = g.requests.acknowledge;
-    let reply = g.requests.reply;
-    if machine {
+    if asks_machine(b) {
         return true;
     }
-    if acknowledge {
+    if asks_acknowledge(b) {
         return true;
     }
-    reply
+    asks_reply(b)
 }
 
-pub fn some_recipient(h: Header) -> bool
-    ensures { λ r. ⌜ r ≡ someRecipient h ⌝ }
+// G2.
+fn has_recipients(h: &[u8]) -> bool
+    requires { ⌜ length (now h) ≡ sizeOfHeader ⌝ }
+    ensures { λ r. ⌜ r ≡ headerIn (now (h .entry)) .front .recipients .present ⌝ }
 {
-    let present = h.front.recipients.present;
-    let count = h.front.recipients.addresses.count;
-    if !present {
+    let front = &h[in_header::FRONT..in_header::SIZED];
+    let group = &front[in_front::RECIPIENTS..in_front::INFORMATION];
+    load_flag(&group[in_optional_addresses::PRESENT..in_optional_addresses::ADDRESSES])
+}
+
+fn recipient_count(h: &[u8]) -> u32
+    requires { ⌜ length (now h) ≡ sizeOfHeader ⌝ }
+    ensures { λ r. ⌜ r ≡ headerIn (now (h .entry)) .front .recipients .addresses .count ⌝ }
+{
+    let front = &h[in_header::FRONT..in_header::SIZED];
+    let group = &front[in_front::RECIPIENTS..in_front::INFORMATION];
+    let addresses = &group[in_optional_addresses::ADDRESSES..in_optional_addresses::END];
+    load_word(&addresses[in_addresses::COUNT..in_addresses::END])
+}
+
+pub fn some_recipient(h: &[u8]) -> bool
+    requires { ⌜ length (now h) ≡ sizeOfHeader ⌝ }
+    ensures { λ r. ⌜ r ≡ someRecipient (headerIn (now (h .entry))) ⌝ }
+{
+    if !has_recipients(h) {
         return false;
     }
+    let count = recipient_count(h);
     1 <= count
 }
 
 // Whether a receipt has an originator and exactly one entry in G2.
-pub fn one_recipient(h: Header) -> bool
-    ensures { λ r. ⌜ r ≡ (h .front .originator .present && oneRecipient h) ⌝ }
+pub fn one_recipient(h: &[u8]) -> bool
+    requires { ⌜ length (now h) ≡ sizeOfHeader ⌝ }
+    ensures { λ r. ⌜ r ≡ (headerIn (now (h .entry)) .front .originator .present && oneRecipient (headerIn (now (h .entry)))) ⌝ }
 {
-    let from = h.front.originator.present;
-    let present = h.front.recipients.present;
-    let count = h.front.recipients.addresses.count;
-    if !from {
+    if !has_originator(h) {
         return false;
     }
-    if !present {
+    if !has_recipients(h) {
         return false;
     }
+    let count = recipient_count(h);
     count == 1
 }
 
 // A posting's key: its originator with its block's G5.
-pub fn posting_key(h: Header, b: Block) -> Key
-    ensures { λ r. ⌜ r ≡ postingKey h b ⌝ }
+pub fn posting_key(h: &[u8], b: &[u8]) -> Key
+    requires { ⌜ (length (now h) ≡ sizeOfHeader) × (length (now b) ≡ sizeOfBlock) ⌝ }
+    ensures { λ r. ⌜ r ≡ postingKey (headerIn (now (h .entry))) (blockIn (now (b .entry))) ⌝ }
 {
-    let address = h.front.originator.address;
-    let stamp = b.times.origin.stamp;
+    let address = load_originator(h);
+    let stamp = load_origin(b);
     Key {
         address: address,
         stamp: stamp,
@@ -156,12 +195,12 @@ pub fn posting_key(h: Header, b: Block) -> Key
 }
 
 // A receipt's key: its one recipient with its block's G8.
-pub fn receipt_key(h: Header, b: Block) -> Key
-    ensures { λ r. ⌜ r ≡ receiptKey h b ⌝ }
+pub fn receipt_key(h: &[u8], b: &[u8]) -> Key
+    requires { ⌜ (length (now h) ≡ sizeOfHeader) × (length (now b) ≡ sizeOfBlock) ⌝ }
+    ensures { λ r. ⌜ r ≡ receiptKey (headerIn (now (h .entry))) (blockIn (now (b .entry))) ⌝ }
 {
-    let list = h.front.recipients.addresses.list;
-    let address = list[0];
-    let stamp = b.response.response.stamp;
+    let address = load_first_recipient(h);
+    let stamp = load_answered(b);
     Key {
         address: address,
         stamp: stamp,
@@ -169,9 +208,9 @@ pub fn receipt_key(h: Header, b: Block) -> Key
 }
 
 // A posting's arguments, its block at hand: the record's own refusals, then 29, 20 and 21.
-pub fn check_posting(h: Header, block: Block, number: u32, count: OctetSize) -> Answer
-    requires { ⌜ (hasBlock h number ≡ true → h .blocks .count ≤ 16 → block ≡ blockAt h number) ⌝ }
-    ensures { λ r. ⌜ (answerNo r ≡ postingFault h number (count .0)) × (answerPlace r ≡ 0) ⌝ }
+pub fn check_posting(h: &[u8; RECORD], block: &[u8], number: u32, count: OctetSize) -> Answer
+    requires { ⌜ (length (now block) ≡ sizeOfBlock) × (hasBlock (headerIn (now h)) number ≡ true → headerIn (now h) .blocks .count ≤ 16 → blockIn (now block) ≡ blockAt (headerIn (now h)) number) ⌝ }
+    ensures { λ r. ⌜ (answerNo r ≡ postingFault (headerIn (now (h .entry))) number (count .0)) × (answerPlace r ≡ 0) ⌝ }
 {
     let valid = writer::check(h, count);
     let Written::Done(_) = valid else {
@@ -190,9 +229,9 @@ pub fn check_posting(h: Header, block: Block, number: u32, count: OctetSize) -> 
 }
 
 // A receipt's arguments, its block at hand: the record's own refusals, then 29, 24 and 25.
-pub fn check_receipt(h: Header, block: Block, number: u32, count: OctetSize) -> Answer
-    requires { ⌜ (hasBlock h number ≡ true → h .blocks .count ≤ 16 → block ≡ blockAt h number) ⌝ }
-    ensures { λ r. ⌜ (answerNo r ≡ receiptFault h number (count .0)) × (answerPlace r ≡ 0) ⌝ }
+pub fn check_receipt(h: &[u8; RECORD], block: &[u8], number: u32, count: OctetSize) -> Answer
+    requires { ⌜ (length (now block) ≡ sizeOfBlock) × (hasBlock (headerIn (now h)) number ≡ true → headerIn (now h) .blocks .count ≤ 16 → blockIn (now block) ≡ blockAt (headerIn (now h)) number) ⌝ }
+    ensures { λ r. ⌜ (answerNo r ≡ receiptFault (headerIn (now (h .entry))) number (count .0)) × (answerPlace r ≡ 0) ⌝ }
 {
     let valid = writer::check(h, count);
     let Written::Done(_) = valid else {
@@ -201,8 +240,7 @@ pub fn check_receipt(h: Header, block: Block, number: u32, count: OctetSize) -> 
     if !has_block(h, number) {
         return refusal(PendingFault::NoBlock);
     }
-    let answers = block.response.present;
-    if !answers {
+    if !has_response(block) {
         return refusal(PendingFault::NoResponse);
     }
     if !one_recipient(h) {

@@ -3,31 +3,39 @@ ghost use mathlib.Core.Path.{_≡_};
 ghost use Rattle.codec.specs.Refusals.{checkNo};
 ghost use Prim.Native.Nat.{_<_};
 ghost use Rattle.header.specs.Table.{address, addresses};
+ghost use Rattle.record_octets.specs.Record.{sizeOfAddress, addressIn, sizeOfAddresses, addressesIn, addressesOf, sizeOfAddressesList};
+ghost use lib.ListN.{length};
 use crate::texts::check_unit_name;
+use cells::entry;
+use cells::load_flag;
+use cells::load_word;
 use codec::Check;
 use codec::Fault;
 use codec::earlier;
-use header::Address;
-use header::Addresses;
 use header::layout::URN;
-use optional::check_optional;
+use leaves::numbers::check_optional;
+use record_octets::in_address;
+use record_octets::in_addresses;
+use record_octets::in_optional_number;
 
 // The URN over its width, both forms or neither, the name: in this order.
-pub fn check_address(x: Address) -> Check
-    ensures { λ r. ⌜ checkNo r ≡ address .check x ⌝ }
+pub fn check_address(x: &[u8]) -> Check
+    requires { ⌜ length (now x) ≡ sizeOfAddress ⌝ }
+    ensures { λ r. ⌜ checkNo r ≡ address .check (addressIn (now (x .entry))) ⌝ }
 {
-    let urn = check_optional(URN, x.urn);
-    let name = check_unit_name(!x.urn.present, x.name);
+    let urn = check_optional(URN, &x[in_address::URN..in_address::NAME]);
+    let number = &x[in_address::URN..in_address::NAME];
+    let present = load_flag(&number[in_optional_number::PRESENT..in_optional_number::VALUE]);
+    let name = check_unit_name(!present, &x[in_address::NAME..in_address::END]);
     earlier(urn, name)
 }
 
-// A list of 1 to left + 1 addresses: its count, then the addresses.
-pub fn check_addresses(left: usize, x: Addresses) -> Check
-    requires { ⌜ left < 16 ⌝ }
-    ensures { λ r. ⌜ checkNo r ≡ addresses left .check x ⌝ }
+// The entries of a list of 1 to left + 1 addresses: their count, then the addresses.
+fn check_entries(left: usize, list: &[u8], held: u32) -> Check
+    requires { ⌜ (left < 16) × (length (now list) ≡ sizeOfAddressesList) ⌝ }
+    ensures { λ r. ⌜ checkNo r ≡ addresses left .check (addressesOf (now (list .entry)) held) ⌝ }
 {
-    let list = x.list;
-    let count = x.count as usize;
+    let count = held as usize;
     if left + 1 < count {
         return Check::Bad(Fault::Count);
     }
@@ -36,12 +44,19 @@ pub fn check_addresses(left: usize, x: Addresses) -> Check
     }
     let mut i: usize = 0;
     while i < count {
-        let entry = list[i];
-        let c = check_address(entry);
+        let c = check_address(entry(list, i, in_addresses::ENTRY));
         let Check::Fine = c else {
             return c;
         };
         i += 1;
     }
     Check::Fine
+}
+
+pub fn check_addresses(left: usize, x: &[u8]) -> Check
+    requires { ⌜ (left < 16) × (length (now x) ≡ sizeOfAddresses) ⌝ }
+    ensures { λ r. ⌜ checkNo r ≡ addresses left .check (addressesIn (now (x .entry))) ⌝ }
+{
+    let count = load_word(&x[in_addresses::COUNT..in_addresses::END]);
+    check_entries(left, &x[in_addresses::LIST..in_addresses::COUNT], count)
 }

@@ -2,13 +2,11 @@
 ghost use mathlib.Core.Path.{_≡_};
 ghost use Rattle.codec.specs.Refusals.{checkNo};
 ghost use Rattle.header.specs.Table.{date, time, dtg, stamp};
+ghost use Rattle.record_octets.specs.Record.{sizeOfDate, dateIn, sizeOfTime, timeIn, sizeOfDtg, dtgIn, sizeOfStamp, stampIn};
+ghost use lib.ListN.{length};
 use codec::Check;
 use codec::Fault;
 use codec::earlier;
-use header::Date;
-use header::Dtg;
-use header::Stamp;
-use header::Time;
 use header::layout::DAY;
 use header::layout::EXTENSION;
 use header::layout::HOUR;
@@ -16,41 +14,49 @@ use header::layout::MINUTE;
 use header::layout::MONTH;
 use header::layout::SECOND;
 use header::layout::YEAR;
-use number::check_number;
-use optional::check_optional;
+use leaves::numbers::check_optional;
+use leaves::numbers::check_word;
+use record_octets::in_date;
+use record_octets::in_dtg;
+use record_octets::in_stamp;
+use record_octets::in_time;
 
-pub fn check_date(x: Date) -> Check
-    ensures { λ r. ⌜ checkNo r ≡ date .check x ⌝ }
+pub fn check_date(x: &[u8]) -> Check
+    requires { ⌜ length (now x) ≡ sizeOfDate ⌝ }
+    ensures { λ r. ⌜ checkNo r ≡ date .check (dateIn (now (x .entry))) ⌝ }
 {
-    let year = check_number(YEAR, Fault::Code, x.year);
-    let month = check_number(MONTH, Fault::Code, x.month);
-    let day = check_number(DAY, Fault::Code, x.day);
+    let year = check_word(YEAR, Fault::Code, &x[in_date::YEAR..in_date::MONTH]);
+    let month = check_word(MONTH, Fault::Code, &x[in_date::MONTH..in_date::DAY]);
+    let day = check_word(DAY, Fault::Code, &x[in_date::DAY..in_date::END]);
     let rest = earlier(month, day);
     earlier(year, rest)
 }
 
-pub fn check_time(x: Time) -> Check
-    ensures { λ r. ⌜ checkNo r ≡ time .check x ⌝ }
+pub fn check_time(x: &[u8]) -> Check
+    requires { ⌜ length (now x) ≡ sizeOfTime ⌝ }
+    ensures { λ r. ⌜ checkNo r ≡ time .check (timeIn (now (x .entry))) ⌝ }
 {
-    let hour = check_number(HOUR, Fault::Code, x.hour);
-    let minute = check_number(MINUTE, Fault::Code, x.minute);
-    let second = check_number(SECOND, Fault::Code, x.second);
+    let hour = check_word(HOUR, Fault::Code, &x[in_time::HOUR..in_time::MINUTE]);
+    let minute = check_word(MINUTE, Fault::Code, &x[in_time::MINUTE..in_time::SECOND]);
+    let second = check_word(SECOND, Fault::Code, &x[in_time::SECOND..in_time::END]);
     let rest = earlier(minute, second);
     earlier(hour, rest)
 }
 
-pub fn check_dtg(x: Dtg) -> Check
-    ensures { λ r. ⌜ checkNo r ≡ dtg .check x ⌝ }
+pub fn check_dtg(x: &[u8]) -> Check
+    requires { ⌜ length (now x) ≡ sizeOfDtg ⌝ }
+    ensures { λ r. ⌜ checkNo r ≡ dtg .check (dtgIn (now (x .entry))) ⌝ }
 {
-    let date = check_date(x.date);
-    let time = check_time(x.time);
+    let date = check_date(&x[in_dtg::DATE..in_dtg::TIME]);
+    let time = check_time(&x[in_dtg::TIME..in_dtg::END]);
     earlier(date, time)
 }
 
-pub fn check_stamp(x: Stamp) -> Check
-    ensures { λ r. ⌜ checkNo r ≡ stamp .check x ⌝ }
+pub fn check_stamp(x: &[u8]) -> Check
+    requires { ⌜ length (now x) ≡ sizeOfStamp ⌝ }
+    ensures { λ r. ⌜ checkNo r ≡ stamp .check (stampIn (now (x .entry))) ⌝ }
 {
-    let dtg = check_dtg(x.dtg);
-    let extension = check_optional(EXTENSION, x.extension);
+    let dtg = check_dtg(&x[in_stamp::DTG..in_stamp::EXTENSION]);
+    let extension = check_optional(EXTENSION, &x[in_stamp::EXTENSION..in_stamp::END]);
     earlier(dtg, extension)
 }

@@ -2,50 +2,63 @@
 ghost use mathlib.Core.Path.{_≡_};
 ghost use Rattle.codec.specs.Refusals.{checkNo};
 ghost use Rattle.header.specs.Table.{identity, optionalIdentity, format};
+ghost use Rattle.record_octets.specs.Record.{sizeOfIdentity, identityIn, sizeOfOptionalIdentity, optionalIdentityIn, sizeOfFormat, formatIn};
+ghost use lib.ListN.{length};
 use crate::texts::check_optional_text;
+use cells::load_flag;
 use codec::Check;
 use codec::Fault;
 use codec::earlier;
-use header::Format;
-use header::Identity;
-use header::OptionalIdentity;
 use header::layout::FAD;
 use header::layout::FILE;
 use header::layout::MESSAGE_NUMBER;
 use header::layout::MESSAGE_SUBTYPE;
 use header::layout::STANDARD_VERSION;
 use header::layout::UMF;
-use number::check_number;
-use optional::check_optional;
+use leaves::numbers::check_optional;
+use leaves::numbers::check_word;
+use record_octets::in_format;
+use record_octets::in_identity;
+use record_octets::in_optional_identity;
 
 // G4.
-pub fn check_identity(x: Identity) -> Check
-    ensures { λ r. ⌜ checkNo r ≡ identity .check x ⌝ }
+pub fn check_identity(x: &[u8]) -> Check
+    requires { ⌜ length (now x) ≡ sizeOfIdentity ⌝ }
+    ensures { λ r. ⌜ checkNo r ≡ identity .check (identityIn (now (x .entry))) ⌝ }
 {
-    let fad = check_number(FAD, Fault::Code, x.fad);
-    let number = check_number(MESSAGE_NUMBER, Fault::Code, x.number);
-    let subtype = check_optional(MESSAGE_SUBTYPE, x.subtype);
+    let fad = check_word(FAD, Fault::Code, &x[in_identity::FAD..in_identity::NUMBER]);
+    let number = check_word(
+        MESSAGE_NUMBER,
+        Fault::Code,
+        &x[in_identity::NUMBER..in_identity::SUBTYPE],
+    );
+    let subtype = check_optional(MESSAGE_SUBTYPE, &x[in_identity::SUBTYPE..in_identity::END]);
     let rest = earlier(number, subtype);
     earlier(fad, rest)
 }
 
-pub fn check_optional_identity(x: OptionalIdentity) -> Check
-    ensures { λ r. ⌜ checkNo r ≡ optionalIdentity .check x ⌝ }
+pub fn check_optional_identity(x: &[u8]) -> Check
+    requires { ⌜ length (now x) ≡ sizeOfOptionalIdentity ⌝ }
+    ensures { λ r. ⌜ checkNo r ≡ optionalIdentity .check (optionalIdentityIn (now (x .entry))) ⌝ }
 {
-    let present = x.present;
+    let present = load_flag(&x[in_optional_identity::PRESENT..in_optional_identity::IDENTITY]);
     if present {
-        return check_identity(x.identity);
+        return check_identity(&x[in_optional_identity::IDENTITY..in_optional_identity::END]);
     }
     Check::Fine
 }
 
-pub fn check_format(x: Format) -> Check
-    ensures { λ r. ⌜ checkNo r ≡ format .check x ⌝ }
+pub fn check_format(x: &[u8]) -> Check
+    requires { ⌜ length (now x) ≡ sizeOfFormat ⌝ }
+    ensures { λ r. ⌜ checkNo r ≡ format .check (formatIn (now (x .entry))) ⌝ }
 {
-    let umf = check_number(UMF, Fault::Code, x.umf);
-    let version = check_optional(STANDARD_VERSION, x.version);
-    let identity = check_optional_identity(x.identity);
-    let file = check_optional_text(FILE, x.file);
+    let umf = check_word(UMF, Fault::Code, &x[in_format::UMF..in_format::VERSION]);
+    let version = check_optional(
+        STANDARD_VERSION,
+        &x[in_format::VERSION..in_format::IDENTITY],
+    );
+    let identity = check_optional_identity(&x[in_format::IDENTITY..in_format::FILE]);
+    let file = check_optional_text(FILE, &x[in_format::FILE..in_format::END]);
     let rest = earlier(identity, file);
     let rest = earlier(version, rest);
     earlier(umf, rest)

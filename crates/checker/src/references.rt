@@ -2,29 +2,35 @@
 ghost use mathlib.Core.Path.{_≡_};
 ghost use Rattle.codec.specs.Refusals.{checkNo};
 ghost use Rattle.header.specs.Table.{reference, references, optionalReferences};
+ghost use Rattle.record_octets.specs.Record.{sizeOfReference, referenceIn, sizeOfReferences, referencesIn, referencesOf, sizeOfReferencesList, sizeOfOptionalReferences, optionalReferencesIn};
+ghost use lib.ListN.{length};
 use crate::address::check_address;
 use crate::dtg::check_stamp;
+use cells::entry;
+use cells::load_flag;
+use cells::load_word;
 use codec::Check;
 use codec::Fault;
 use codec::earlier;
-use header::OptionalReferences;
-use header::Reference;
-use header::References;
+use record_octets::in_optional_references;
+use record_octets::in_reference;
+use record_octets::in_references;
 
-pub fn check_reference(x: Reference) -> Check
-    ensures { λ r. ⌜ checkNo r ≡ reference .check x ⌝ }
+pub fn check_reference(x: &[u8]) -> Check
+    requires { ⌜ length (now x) ≡ sizeOfReference ⌝ }
+    ensures { λ r. ⌜ checkNo r ≡ reference .check (referenceIn (now (x .entry))) ⌝ }
 {
-    let address = check_address(x.address);
-    let stamp = check_stamp(x.stamp);
+    let address = check_address(&x[in_reference::ADDRESS..in_reference::STAMP]);
+    let stamp = check_stamp(&x[in_reference::STAMP..in_reference::END]);
     earlier(address, stamp)
 }
 
-// 1 to 4 references.
-pub fn check_references(x: References) -> Check
-    ensures { λ r. ⌜ checkNo r ≡ references .check x ⌝ }
+// The entries of a list of 1 to 4 references: their count, then the references.
+fn check_entries(list: &[u8], held: u32) -> Check
+    requires { ⌜ length (now list) ≡ sizeOfReferencesList ⌝ }
+    ensures { λ r. ⌜ checkNo r ≡ references .check (referencesOf (now (list .entry)) held) ⌝ }
 {
-    let list = x.list;
-    let count = x.count as usize;
+    let count = held as usize;
     if 4 < count {
         return Check::Bad(Fault::Count);
     }
@@ -33,8 +39,7 @@ pub fn check_references(x: References) -> Check
     }
     let mut i: usize = 0;
     while i < count {
-        let entry = list[i];
-        let c = check_reference(entry);
+        let c = check_reference(entry(list, i, in_references::ENTRY));
         let Check::Fine = c else {
             return c;
         };
@@ -43,13 +48,26 @@ pub fn check_references(x: References) -> Check
     Check::Fine
 }
 
-// G9.
-pub fn check_optional_references(x: OptionalReferences) -> Check
-    ensures { λ r. ⌜ checkNo r ≡ optionalReferences .check x ⌝ }
+pub fn check_references(x: &[u8]) -> Check
+    requires { ⌜ length (now x) ≡ sizeOfReferences ⌝ }
+    ensures { λ r. ⌜ checkNo r ≡ references .check (referencesIn (now (x .entry))) ⌝ }
 {
-    let present = x.present;
+    let count = load_word(&x[in_references::COUNT..in_references::END]);
+    check_entries(&x[in_references::LIST..in_references::COUNT], count)
+}
+
+// G9.
+pub fn check_optional_references(x: &[u8]) -> Check
+    requires { ⌜ length (now x) ≡ sizeOfOptionalReferences ⌝ }
+    ensures { λ r. ⌜ checkNo r ≡ optionalReferences .check (optionalReferencesIn (now (x .entry))) ⌝ }
+{
+    let present = load_flag(
+        &x[in_optional_references::PRESENT..in_optional_references::REFERENCES],
+    );
     if present {
-        return check_references(x.references);
+        return check_references(
+            &x[in_optional_references::REFERENCES..in_optional_references::END],
+        );
     }
     Check::Fine
 }

@@ -3,8 +3,9 @@ ghost use mathlib.Core.Path.{_≡_};
 ghost use Prim.Native.Nat.{_+_};
 ghost use Rattle.codec.specs.Writes.{Placed};
 ghost use Rattle.header.specs.Table.{stamp};
+ghost use Rattle.record_octets.specs.Record.{sizeOfStamp, stampIn};
+ghost use lib.ListN.{length};
 use bits::BitPlace;
-use header::Stamp;
 use header::layout::DAY;
 use header::layout::EXTENSION;
 use header::layout::HOUR;
@@ -12,8 +13,9 @@ use header::layout::MINUTE;
 use header::layout::MONTH;
 use header::layout::SECOND;
 use header::layout::YEAR;
+use leaves::numbers::end_optional;
 use number::end_number;
-use optional::end_optional;
+use record_octets::in_stamp;
 
 // Its bits do not depend on its value.
 pub fn end_dtg(at: BitPlace) -> BitPlace
@@ -28,10 +30,10 @@ pub fn end_dtg(at: BitPlace) -> BitPlace
     end_number(at, SECOND)
 }
 
-pub fn end_stamp(at: BitPlace, x: Stamp) -> BitPlace
-    requires { ⌜ Placed (at .0) (stamp .size x) ⌝ }
-    ensures { λ r. ⌜ r .0 ≡ at .0 + stamp .size x ⌝ }
+pub fn end_stamp(at: BitPlace, x: &[u8]) -> BitPlace
+    requires { ⌜ Placed (at .0) (stamp .size (stampIn (now x))) × (length (now x) ≡ sizeOfStamp) ⌝ }
+    ensures { λ r. ⌜ r .0 ≡ at .0 + stamp .size (stampIn (now (x .entry))) ⌝ }
 {
     let at = end_dtg(at);
-    end_optional(at, EXTENSION, x.extension)
+    end_optional(at, EXTENSION, &x[in_stamp::EXTENSION..in_stamp::END])
 }

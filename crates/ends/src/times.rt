@@ -3,34 +3,37 @@ ghost use mathlib.Core.Path.{_≡_};
 ghost use Prim.Native.Nat.{_+_};
 ghost use Rattle.codec.specs.Writes.{Placed};
 ghost use Rattle.header.specs.Table.{optionalStamp, optionalDtg, optionalRequests, times};
+ghost use Rattle.record_octets.specs.Record.{sizeOfOptionalDtg, optionalDtgIn, sizeOfOptionalStamp, optionalStampIn, sizeOfOptionalRequests, optionalRequestsIn, sizeOfTimes, timesIn};
+ghost use lib.ListN.{length};
 use crate::dtg::end_dtg;
 use crate::dtg::end_stamp;
 use bits::BitPlace;
+use cells::load_flag;
 use flag::end_flag;
-use header::OptionalDtg;
-use header::OptionalRequests;
-use header::OptionalStamp;
-use header::Times;
+use record_octets::in_optional_dtg;
+use record_octets::in_optional_requests;
+use record_octets::in_optional_stamp;
+use record_octets::in_times;
 
 // G5.
-pub fn end_optional_stamp(at: BitPlace, x: OptionalStamp) -> BitPlace
-    requires { ⌜ Placed (at .0) (optionalStamp .size x) ⌝ }
-    ensures { λ r. ⌜ r .0 ≡ at .0 + optionalStamp .size x ⌝ }
+pub fn end_optional_stamp(at: BitPlace, x: &[u8]) -> BitPlace
+    requires { ⌜ Placed (at .0) (optionalStamp .size (optionalStampIn (now x))) × (length (now x) ≡ sizeOfOptionalStamp) ⌝ }
+    ensures { λ r. ⌜ r .0 ≡ at .0 + optionalStamp .size (optionalStampIn (now (x .entry))) ⌝ }
 {
-    let present = x.present;
+    let present = load_flag(&x[in_optional_stamp::PRESENT..in_optional_stamp::STAMP]);
     let behind = end_flag(at);
     if present {
-        return end_stamp(behind, x.stamp);
+        return end_stamp(behind, &x[in_optional_stamp::STAMP..in_optional_stamp::END]);
     }
     behind
 }
 
 // G6.
-pub fn end_optional_dtg(at: BitPlace, x: OptionalDtg) -> BitPlace
-    requires { ⌜ Placed (at .0) (optionalDtg .size x) ⌝ }
-    ensures { λ r. ⌜ r .0 ≡ at .0 + optionalDtg .size x ⌝ }
+pub fn end_optional_dtg(at: BitPlace, x: &[u8]) -> BitPlace
+    requires { ⌜ Placed (at .0) (optionalDtg .size (optionalDtgIn (now x))) × (length (now x) ≡ sizeOfOptionalDtg) ⌝ }
+    ensures { λ r. ⌜ r .0 ≡ at .0 + optionalDtg .size (optionalDtgIn (now (x .entry))) ⌝ }
 {
-    let present = x.present;
+    let present = load_flag(&x[in_optional_dtg::PRESENT..in_optional_dtg::DTG]);
     let behind = end_flag(at);
     if present {
         return end_dtg(behind);
@@ -48,11 +51,11 @@ pub fn end_requests(at: BitPlace) -> BitPlace
     end_flag(at)
 }
 
-pub fn end_optional_requests(at: BitPlace, x: OptionalRequests) -> BitPlace
-    requires { ⌜ Placed (at .0) (optionalRequests .size x) ⌝ }
-    ensures { λ r. ⌜ r .0 ≡ at .0 + optionalRequests .size x ⌝ }
+pub fn end_optional_requests(at: BitPlace, x: &[u8]) -> BitPlace
+    requires { ⌜ Placed (at .0) (optionalRequests .size (optionalRequestsIn (now x))) × (length (now x) ≡ sizeOfOptionalRequests) ⌝ }
+    ensures { λ r. ⌜ r .0 ≡ at .0 + optionalRequests .size (optionalRequestsIn (now (x .entry))) ⌝ }
 {
-    let present = x.present;
+    let present = load_flag(&x[in_optional_requests::PRESENT..in_optional_requests::REQUESTS]);
     let behind = end_flag(at);
     if present {
         return end_requests(behind);
@@ -60,11 +63,11 @@ pub fn end_optional_requests(at: BitPlace, x: OptionalRequests) -> BitPlace
     behind
 }
 
-pub fn end_times(at: BitPlace, x: Times) -> BitPlace
-    requires { ⌜ Placed (at .0) (times .size x) ⌝ }
-    ensures { λ r. ⌜ r .0 ≡ at .0 + times .size x ⌝ }
+pub fn end_times(at: BitPlace, x: &[u8]) -> BitPlace
+    requires { ⌜ Placed (at .0) (times .size (timesIn (now x))) × (length (now x) ≡ sizeOfTimes) ⌝ }
+    ensures { λ r. ⌜ r .0 ≡ at .0 + times .size (timesIn (now (x .entry))) ⌝ }
 {
-    let at = end_optional_stamp(at, x.origin);
-    let at = end_optional_dtg(at, x.perish);
-    end_optional_requests(at, x.requests)
+    let at = end_optional_stamp(at, &x[in_times::ORIGIN..in_times::PERISH]);
+    let at = end_optional_dtg(at, &x[in_times::PERISH..in_times::REQUESTS]);
+    end_optional_requests(at, &x[in_times::REQUESTS..in_times::END])
 }

@@ -1,11 +1,12 @@
-// The calls for hosts in C and Rust: each is one call of the gateway, its structs by value, its octets
-// lent, its answer in plain numbers.
+// The calls for hosts in C and Rust: each is one call of the gateway, its records and octets lent, its table by
+// value, its answer in plain numbers.
 ghost use mathlib.Core.Path.{_≡_};
 ghost use mathlib.Core.List.{[]};
 ghost use Prim.Native.Nat.{_-_};
 ghost use lib.ListN.{length, drop};
 ghost use Rattle.reader.specs.Reading.{reading, userData};
-ghost use Rattle.reader.specs.Told.{toTell};
+ghost use Rattle.reader.specs.Told.{toTell, recordAfter, Holds};
+ghost use Rattle.record_octets.specs.Record.{headerIn};
 ghost use Rattle.writer.specs.Writing as writer;
 ghost use Rattle.table.specs.Rows.{see};
 ghost use Rattle.table.specs.Zero.{noTable};
@@ -13,19 +14,19 @@ ghost use Rattle.arguments.specs.Arguments.{posting, receiving, releasing};
 ghost use Rattle.pending.specs.Calls.{Did};
 ghost use Rattle.listing.specs.Listing as listing;
 ghost use Rattle.answers.specs.Numbers.{readNumbers, writeNumbers, listNumbers};
-use answers::ReadAnswer;
 use answers::SizeAnswer;
 use answers::TableAnswer;
 use bits::OctetSize;
-use header::Header;
 use order::Key;
+use record_octets::RECORD;
 use table::Table;
 
 #[no_mangle]
-pub extern "C" fn pruvelaccio_read_value(datagram: &[u8]) -> ReadAnswer
-    ensures { λ r. ⌜ r ≡ readNumbers (toTell (reading (now (datagram .entry)))) ⌝ }
+pub extern "C" fn pruvelaccio_read_octets(datagram: &[u8], header: &mut [u8; RECORD]) -> SizeAnswer
+    ensures { λ r. ⌜ (r ≡ readNumbers (toTell (reading (now (datagram .entry))))) × (now (header .exit) ≡ recordAfter (reading (now (datagram .entry))) (now (header .entry))) × Holds (reading (now (datagram .entry))) (now (header .exit)) ⌝ }
 {
-    answers::of_reading(reader::read(datagram))
+    let read = reader::read(datagram, header);
+    answers::of_reading(read)
 }
 
 // Where the user data starts: everything from there on follows the header. A refused datagram has none,
@@ -39,17 +40,21 @@ pub extern "C" fn pruvelaccio_data_start(datagram: &[u8]) -> usize
 }
 
 #[no_mangle]
-pub extern "C" fn pruvelaccio_check_value(h: Header, count: usize) -> SizeAnswer
-    ensures { λ r. ⌜ r ≡ writeNumbers (writer.checking h count) ⌝ }
+pub extern "C" fn pruvelaccio_check_octets(header: &[u8; RECORD], count: usize) -> SizeAnswer
+    ensures { λ r. ⌜ r ≡ writeNumbers (writer.checking (headerIn (now (header .entry))) count) ⌝ }
 {
-    answers::of_writing(writer::check(h, OctetSize(count)))
+    answers::of_writing(writer::check(header, OctetSize(count)))
 }
 
 #[no_mangle]
-pub extern "C" fn pruvelaccio_write_value(h: Header, count: usize, out: &mut [u8]) -> SizeAnswer
-    ensures { λ r. ⌜ (r ≡ writeNumbers (writer.writing h count (length (now (out .entry))))) × (now (out .exit) ≡ writer.outputAfter h (writer.writing h count (length (now (out .entry)))) (now (out .entry))) ⌝ }
+pub extern "C" fn pruvelaccio_write_octets(
+    header: &[u8; RECORD],
+    count: usize,
+    out: &mut [u8],
+) -> SizeAnswer
+    ensures { λ r. ⌜ (r ≡ writeNumbers (writer.writing (headerIn (now (header .entry))) count (length (now (out .entry))))) × (now (out .exit) ≡ writer.outputAfter (headerIn (now (header .entry))) (writer.writing (headerIn (now (header .entry))) count (length (now (out .entry)))) (now (out .entry))) ⌝ }
 {
-    let written = writer::write(h, OctetSize(count), out);
+    let written = writer::write(header, OctetSize(count), out);
     answers::of_writing(written)
 }
 
@@ -63,25 +68,25 @@ pub extern "C" fn pruvelaccio_empty_value() -> Table
 #[no_mangle]
 pub extern "C" fn pruvelaccio_post_value(
     t: Table,
-    h: Header,
+    header: &[u8; RECORD],
     number: u32,
     count: usize,
 ) -> TableAnswer
-    ensures { λ r. ⌜ Did (posting h number count) t (r .number) (r .table) × (r .place ≡ 0) ⌝ }
+    ensures { λ r. ⌜ Did (posting (headerIn (now (header .entry))) number count) t (r .number) (r .table) × (r .place ≡ 0) ⌝ }
 {
-    answers::of_call(pending::post(t, h, number, OctetSize(count)))
+    answers::of_call(pending::post(t, header, number, OctetSize(count)))
 }
 
 #[no_mangle]
 pub extern "C" fn pruvelaccio_receipt_value(
     t: Table,
-    h: Header,
+    header: &[u8; RECORD],
     number: u32,
     count: usize,
 ) -> TableAnswer
-    ensures { λ r. ⌜ Did (receiving h number count) t (r .number) (r .table) × (r .place ≡ 0) ⌝ }
+    ensures { λ r. ⌜ Did (receiving (headerIn (now (header .entry))) number count) t (r .number) (r .table) × (r .place ≡ 0) ⌝ }
 {
-    answers::of_call(pending::receipt(t, h, number, OctetSize(count)))
+    answers::of_call(pending::receipt(t, header, number, OctetSize(count)))
 }
 
 #[no_mangle]

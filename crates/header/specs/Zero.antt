@@ -19,7 +19,6 @@ use Rattle.header.specs.declared.Reference.{Reference}
 use Rattle.header.specs.declared.References.{References}
 use Rattle.header.specs.declared.Block.{Block}
 use Rattle.header.specs.declared.Blocks.{Blocks}
-use Rattle.header.specs.declared.Header.{Header}
 
 unfoldable pub noNumber : OptionalNumber
 noNumber = record { present = false; value = 0 }
@@ -71,6 +70,3 @@ noBlock = record { format = noFormat; handling = noHandling; times = noTimes; re
 
 unfoldable pub noBlocks : Blocks
 noBlocks = record { list = replicate 16 noBlock; count = 0 }
-
-unfoldable pub noHeader : Header
-noHeader = record { front = noFront; sized = false; blocks = noBlocks }

@@ -16,6 +16,8 @@ use table::Table;
 use well::key_follows;
 use well::row_fine;
 
+mod address;
+mod moment;
 pub mod well;
 
 // What was seen. The place is the key's only where the table is well formed.

@@ -11,8 +11,8 @@ ghost use Rattle.order.specs.Values.{addressOf, keyOf, byAddress, byKey, compar
 ghost use Rattle.table.specs.Rows.{usedRecipients};
 ghost use Rattle.table.specs.Search.{addressesOf};
 ghost use Rattle.table.specs.WellFormed.{fits, unanswered, increasing, recipientFine, rowFine};
-use checker::address::check_address;
-use checker::dtg::check_stamp;
+use crate::address::check_address;
+use crate::moment::check_stamp;
 use codec::Check;
 use codec::earlier;
 use header::Address;

@@ -1,8 +1,25 @@
 // What the cases show of a reading.
+ghost use mathlib.Core.Path.{_≡_};
 ghost use Prim.Native.Nat.{_≤_};
+ghost use lib.ListN.{length};
+ghost use Rattle.record_octets.specs.Record.{sizeOfOptionalAddresses, sizeOfHeader};
+use cells::load_word;
 use codec::Fault;
-use header::Block;
+use leaves::setting::block_count;
 use reader::Outcome;
+use record_octets::RECORD;
+use record_octets::in_address;
+use record_octets::in_addresses;
+use record_octets::in_block;
+use record_octets::in_blocks;
+use record_octets::in_front;
+use record_octets::in_header;
+use record_octets::in_optional_address;
+use record_octets::in_optional_addresses;
+use record_octets::in_optional_references;
+use record_octets::in_optional_text;
+use record_octets::in_references;
+use record_octets::in_text;
 
 // The refusal's number and place, number 0 where the datagram is accepted; the octets of the header and
 // of the user data; the length of the originator's name, and the counts of the lists, the references those
@@ -43,9 +60,49 @@ fn wide(x: u32) -> u64 {
     x as u64
 }
 
-fn references_of(list: [Block; 16]) -> u64 {
-    let first = list[0];
-    wide(first.references.references.count)
+// The length of the originator's name.
+fn name_length(h: &[u8]) -> u32
+    requires { ⌜ length (now h) ≡ sizeOfHeader ⌝ }
+{
+    let front = &h[in_header::FRONT..in_header::SIZED];
+    let originator = &front[in_front::ORIGINATOR..in_front::RECIPIENTS];
+    let address = &originator[in_optional_address::ADDRESS..in_optional_address::END];
+    let name = &address[in_address::NAME..in_address::END];
+    let text = &name[in_optional_text::TEXT..in_optional_text::END];
+    load_word(&text[in_text::LEN..in_text::END])
+}
+
+// The count of a list of addresses.
+fn count(x: &[u8]) -> u32
+    requires { ⌜ length (now x) ≡ sizeOfOptionalAddresses ⌝ }
+{
+    let addresses = &x[in_optional_addresses::ADDRESSES..in_optional_addresses::END];
+    load_word(&addresses[in_addresses::COUNT..in_addresses::END])
+}
+
+fn recipients(h: &[u8]) -> u32
+    requires { ⌜ length (now h) ≡ sizeOfHeader ⌝ }
+{
+    let front = &h[in_header::FRONT..in_header::SIZED];
+    count(&front[in_front::RECIPIENTS..in_front::INFORMATION])
+}
+
+fn information(h: &[u8]) -> u32
+    requires { ⌜ length (now h) ≡ sizeOfHeader ⌝ }
+{
+    let front = &h[in_header::FRONT..in_header::SIZED];
+    count(&front[in_front::INFORMATION..in_front::END])
+}
+
+// The count of the first block's references.
+fn references(h: &[u8]) -> u32
+    requires { ⌜ length (now h) ≡ sizeOfHeader ⌝ }
+{
+    let blocks = &h[in_header::BLOCKS..in_header::END];
+    let first = &blocks[in_blocks::LIST..in_blocks::ENTRY];
+    let group = &first[in_block::REFERENCES..in_block::END];
+    let list = &group[in_optional_references::REFERENCES..in_optional_references::END];
+    load_word(&list[in_references::COUNT..in_references::END])
 }
 
 fn refused(fault: Fault, place: u64) -> Summary
@@ -64,25 +121,33 @@ fn refused(fault: Fault, place: u64) -> Summary
     }
 }
 
-// The record is large, so what is shown of it is taken out here and nowhere else.
+// What a record that was read shows.
+fn accepted(h: &[u8; RECORD], header: u64, data: u64) -> Summary
+    ensures { λ r. ⌜ r .number ≤ 12 ⌝ }
+{
+    Summary {
+        number: 0,
+        place: 0,
+        header: header,
+        data: data,
+        name: wide(name_length(h)),
+        recipients: wide(recipients(h)),
+        information: wide(information(h)),
+        blocks: wide(block_count(h)),
+        references: wide(references(h)),
+    }
+}
+
+// The record stays here; what is shown of it is taken out of its octets.
 pub fn summarise(datagram: &[u8]) -> Summary
     ensures { λ r. ⌜ r .number ≤ 12 ⌝ }
 {
-    let r = reader::read(datagram);
+    let mut octets = [0u8; RECORD];
+    let r = reader::read(datagram, &mut octets);
     let outcome = r.outcome;
     if let Outcome::Refused(fault, at) = outcome {
         return refused(fault, at.0 as u64);
     }
-    let list = r.header.blocks.list;
-    Summary {
-        number: 0,
-        place: 0,
-        header: r.length.0 as u64,
-        data: reader::user_data(datagram).len() as u64,
-        name: wide(r.header.front.originator.address.name.text.len),
-        recipients: wide(r.header.front.recipients.addresses.count),
-        information: wide(r.header.front.information.addresses.count),
-        blocks: wide(r.header.blocks.count),
-        references: references_of(list),
-    }
+    let data = reader::user_data(datagram).len();
+    accepted(&octets, r.length.0 as u64, data as u64)
 }

@@ -1,9 +1,11 @@
 // Calls on the table of pending messages, at the limits of document 01. Each is a line of a script, which is printed
 // with what came of it: `done` or `refused` with the number, the listing, or a row's octets. The file stdout has
 // what each has to be, worked from document 01.
+mod block;
 mod effects;
 mod lists;
 mod play;
+mod put;
 mod records;
 mod refusals;
 mod rows;

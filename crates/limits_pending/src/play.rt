@@ -10,17 +10,23 @@ use crate::tell::print_character;
 use crate::words::*;
 use crate::wrong::wrong;
 use bits::OctetSize;
+use record_octets::RECORD;
 use table::Table;
 
+// What is not written in a record holds rubbish.
 fn post(t: Table, line: Line) -> Table {
-    let after = pending::post(t, record(line), line.numbers[NUMBER], OctetSize(data(line)));
+    let mut h = [165u8; RECORD];
+    record(line, &mut h);
+    let after = pending::post(t, &h, line.numbers[NUMBER], OctetSize(data(line)));
     let answer = after.answer;
     print_answer(answer);
     after.table
 }
 
 fn receipt(t: Table, line: Line) -> Table {
-    let after = pending::receipt(t, record(line), line.numbers[NUMBER], OctetSize(data(line)));
+    let mut h = [165u8; RECORD];
+    record(line, &mut h);
+    let after = pending::receipt(t, &h, line.numbers[NUMBER], OctetSize(data(line)));
     let answer = after.answer;
     print_answer(answer);
     after.table

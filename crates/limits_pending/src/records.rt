@@ -1,183 +1,118 @@
-// The record and the key that a line describes.
+// The record, put into octets, and the key that a line describes.
+ghost use mathlib.Core.Path.{_≡_};
+ghost use lib.ListN.{length};
+ghost use Rattle.record_octets.specs.Record.{sizeOfAddresses, sizeOfAddressesList, sizeOfBlocks, sizeOfBlocksList, sizeOfFront, sizeOfHeader, sizeOfOptionalAddress, sizeOfOptionalAddresses};
+use crate::block::block;
+use crate::block::stamp;
+use crate::put::address;
+use crate::put::flag;
 use crate::words::*;
-use header::Addresses;
-use header::Block;
-use header::Blocks;
-use header::Compliance;
-use header::Date;
-use header::Dtg;
-use header::Format;
-use header::Front;
-use header::Handling;
-use header::Header;
-use header::OptionalAddress;
-use header::OptionalAddresses;
-use header::OptionalReferences;
-use header::OptionalRequests;
-use header::OptionalResponse;
-use header::OptionalStamp;
-use header::Requests;
-use header::Response;
-use header::Stamp;
-use header::Time;
-use header::Times;
-use header::zero::NO_CODES;
-use header::zero::NO_NUMBER;
-use header::zero::NO_OPTIONAL_DTG;
-use header::zero::no_addresses;
-use header::zero::no_format;
-use header::zero::no_optional_text;
-use header::zero::no_references;
-use optional::OptionalNumber;
+use cells::store_word;
+use header::Address;
 use order::Key;
+use record_octets::RECORD;
+use record_octets::in_addresses;
+use record_octets::in_blocks;
+use record_octets::in_front;
+use record_octets::in_header;
+use record_octets::in_optional_address;
+use record_octets::in_optional_addresses;
 
-fn optional(value: u32) -> OptionalNumber {
-    OptionalNumber {
-        present: value != ABSENT,
-        value: value,
-    }
-}
-
-fn stamp(n: Numbers) -> Stamp {
-    Stamp {
-        dtg: Dtg {
-            date: Date {
-                year: n[YEAR],
-                month: n[OF_MONTH],
-                day: n[DAY],
-            },
-            time: Time {
-                hour: n[HOUR],
-                minute: n[MINUTE],
-                second: n[SECOND],
-            },
-        },
-        extension: optional(n[EXTENSION]),
-    }
-}
-
-// The requests are the three bits of a number, the machine's the lowest.
-fn requests(bits: u32) -> Requests {
-    Requests {
-        machine: bits % 2 == 1,
-        acknowledge: bits / 2 % 2 == 1,
-        reply: bits / 4 % 2 == 1,
-    }
-}
-
-// One of several blocks has a message size: 1, or 0 in a receipt.
-fn handling(n: Numbers) -> Handling {
-    Handling {
-        size: OptionalNumber {
-            present: n[BLOCKS] != 1,
-            value: if n[CODE] == ABSENT { 1 } else { 0 },
-        },
-        codes: NO_CODES,
-        marking: no_optional_text(),
-    }
-}
-
-// A block that is no receipt has G5.
-fn times(n: Numbers) -> Times {
-    Times {
-        origin: OptionalStamp {
-            present: n[CODE] == ABSENT,
-            stamp: stamp(n),
-        },
-        perish: NO_OPTIONAL_DTG,
-        requests: OptionalRequests {
-            present: n[ASKED] != ABSENT,
-            requests: requests(n[ASKED]),
-        },
-    }
-}
-
-fn response(n: Numbers) -> OptionalResponse {
-    OptionalResponse {
-        present: n[CODE] != ABSENT,
-        response: Response {
-            stamp: stamp(n),
-            compliance: Compliance {
-                code: n[CODE],
-                cantco: NO_NUMBER,
-                cantpro: NO_NUMBER,
-            },
-            amplification: no_optional_text(),
-        },
-    }
-}
-
-fn format() -> Format {
-    let mut f = no_format();
-    f.umf = 2;
-    f
-}
-
-fn block(n: Numbers) -> Block {
-    Block {
-        format: format(),
-        handling: handling(n),
-        times: times(n),
-        response: response(n),
-        references: OptionalReferences {
-            present: false,
-            references: no_references(),
-        },
+// All alike.
+fn block_list(list: &mut [u8], n: Numbers)
+    requires { ⌜ length (now list) ≡ sizeOfBlocksList ⌝ }
+{
+    let mut i: usize = 0;
+    while i < 16 {
+        let at = i * in_blocks::ENTRY;
+        block(&mut list[at..at + in_blocks::ENTRY], n);
+        i += 1;
     }
 }
 
 // The blocks behind the first differ from it in the extension, which is 9.
-fn blocks(n: Numbers) -> Blocks {
+fn blocks(x: &mut [u8], n: Numbers)
+    requires { ⌜ length (now x) ≡ sizeOfBlocks ⌝ }
+{
     let mut next = n;
     next[EXTENSION] = 9;
-    let mut list = [block(next); 16];
-    list[0] = block(n);
-    Blocks {
-        list: list,
-        count: n[BLOCKS],
-    }
+    block_list(&mut x[in_blocks::LIST..in_blocks::COUNT], next);
+    block(&mut x[in_blocks::LIST..in_blocks::ENTRY], n);
+    store_word(&mut x[in_blocks::COUNT..in_blocks::END], n[BLOCKS]);
 }
 
-fn originator(line: Line) -> OptionalAddress {
+fn originator(x: &mut [u8], line: Line)
+    requires { ⌜ length (now x) ≡ sizeOfOptionalAddress ⌝ }
+{
     let from = line.from;
-    OptionalAddress {
-        present: line.sent,
-        address: from,
+    flag(
+        &mut x[in_optional_address::PRESENT..in_optional_address::ADDRESS],
+        line.sent,
+    );
+    address(
+        &mut x[in_optional_address::ADDRESS..in_optional_address::END],
+        from,
+    );
+}
+
+fn address_list(list: &mut [u8], to: [Address; 16])
+    requires { ⌜ length (now list) ≡ sizeOfAddressesList ⌝ }
+{
+    let mut i: usize = 0;
+    while i < 16 {
+        let at = i * in_addresses::ENTRY;
+        let a = to[i];
+        address(&mut list[at..at + in_addresses::ENTRY], a);
+        i += 1;
     }
 }
 
-fn recipients(line: Line) -> OptionalAddresses {
+fn addresses(x: &mut [u8], line: Line)
+    requires { ⌜ length (now x) ≡ sizeOfAddresses ⌝ }
+{
     let to = line.to;
-    OptionalAddresses {
-        present: 0 < line.count,
-        addresses: Addresses {
-            list: to,
-            count: line.count,
-        },
-    }
+    address_list(&mut x[in_addresses::LIST..in_addresses::COUNT], to);
+    store_word(&mut x[in_addresses::COUNT..in_addresses::END], line.count);
 }
 
-fn front(line: Line) -> Front {
-    let n = line.numbers;
-    Front {
-        version: n[VERSION],
-        compression: NO_NUMBER,
-        originator: originator(line),
-        recipients: recipients(line),
-        information: OptionalAddresses {
-            present: false,
-            addresses: no_addresses(),
-        },
-    }
+fn recipients(x: &mut [u8], line: Line)
+    requires { ⌜ length (now x) ≡ sizeOfOptionalAddresses ⌝ }
+{
+    let present = 0 < line.count;
+    flag(
+        &mut x[in_optional_addresses::PRESENT..in_optional_addresses::ADDRESSES],
+        present,
+    );
+    addresses(
+        &mut x[in_optional_addresses::ADDRESSES..in_optional_addresses::END],
+        line,
+    );
 }
 
-pub fn record(line: Line) -> Header {
+// Without compression and without G3: their flags are the first octets of their fields.
+fn front(x: &mut [u8], line: Line)
+    requires { ⌜ length (now x) ≡ sizeOfFront ⌝ }
+{
     let n = line.numbers;
-    Header {
-        front: front(line),
-        sized: n[BLOCKS] != 1,
-        blocks: blocks(n),
-    }
+    store_word(&mut x[in_front::VERSION..in_front::COMPRESSION], n[VERSION]);
+    flag(&mut x[in_front::COMPRESSION..in_front::ORIGINATOR], false);
+    originator(&mut x[in_front::ORIGINATOR..in_front::RECIPIENTS], line);
+    recipients(&mut x[in_front::RECIPIENTS..in_front::INFORMATION], line);
+    flag(&mut x[in_front::INFORMATION..in_front::END], false);
+}
+
+fn header(x: &mut [u8], line: Line)
+    requires { ⌜ length (now x) ≡ sizeOfHeader ⌝ }
+{
+    let n = line.numbers;
+    front(&mut x[in_header::FRONT..in_header::SIZED], line);
+    flag(&mut x[in_header::SIZED..in_header::BLOCKS], n[BLOCKS] != 1);
+    blocks(&mut x[in_header::BLOCKS..in_header::END], n);
+}
+
+// The octets between the cells, and the cells of what is absent, stay as they were.
+pub fn record(line: Line, h: &mut [u8; RECORD]) {
+    header(h, line);
 }
 
 pub fn key(line: Line) -> Key {

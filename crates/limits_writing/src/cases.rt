@@ -1,5 +1,6 @@
 // Cases that differ from document 01's octets A in one, two or three numbers. A case's name is made of these
 // numbers, of the octets of user data unless there is one, and of the room unless it is the whole output.
+use crate::plan::FLAG;
 use crate::plan::PLAIN;
 use crate::plan::Plan;
 use crate::plan::changed;
@@ -9,6 +10,7 @@ use crate::tell::WHOLE;
 use crate::tell::line;
 use crate::tell::print;
 use crate::tell::print_number;
+use record_octets::RECORD;
 
 // A part of a case's name that is left out where the number is the usual one.
 fn unusual(label: &[u8], n: usize, usual: usize) {
@@ -18,10 +20,17 @@ fn unusual(label: &[u8], n: usize, usual: usize) {
     }
 }
 
+// The octets of the record that belong to no cell hold rubbish.
+fn case(p: Plan, count: usize, room: usize, hex: bool) {
+    let mut h = [165u8; RECORD];
+    record(p, &mut h);
+    line(&h, count, room, hex);
+}
+
 pub fn with_room(p: Plan, count: usize, room: usize) {
     unusual(b", data ", count, 1);
     unusual(b", room ", room, WHOLE);
-    line(record(p), count, room, false);
+    case(p, count, room, false);
 }
 
 pub fn with_data(p: Plan, count: usize) {
@@ -68,5 +77,11 @@ pub fn without_room(key: usize, value: u32) {
 // A case with a name of its own and the header's octets.
 pub fn shown(name: &[u8], p: Plan, count: usize) {
     print(name);
-    line(record(p), count, WHOLE, true);
+    case(p, count, WHOLE, true);
+}
+
+// The same with another octet in every flag that is set.
+pub fn with_flags(name: &[u8], p: Plan, octet: u32, count: usize) {
+    print(name);
+    case(then(p, FLAG, octet), count, WHOLE, true);
 }

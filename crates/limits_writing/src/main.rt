@@ -6,11 +6,14 @@
 // The counts begin with octets A, 33 bits: version 4; one for each of compression, G1, G2, G3 and the header
 // size, which are absent; and a block of 24: recurrence 1, UMF 4, standard version, G4, file name and message
 // size 1 each, the four codes 8, marking and G5 to G10 1 each.
+mod block;
 mod cases;
+mod flags;
 mod lengths;
 mod lists;
 mod numbers;
 mod order;
+mod parts;
 mod plan;
 mod records;
 mod rules_and_sizes;
@@ -55,4 +58,6 @@ fn main() {
     order::blocks();
     order::checks();
     unused::unused_cells();
+    flags::written();
+    flags::refused();
 }

@@ -2,7 +2,7 @@
 use crate::tell::print;
 use crate::tell::print_number;
 
-pub type Plan = [u32; 46];
+pub type Plan = [u32; 47];
 
 // Stands for a field, a text or a group that is absent.
 pub const ABSENT: u32 = 4294967295;
@@ -107,6 +107,9 @@ pub const SECOND: usize = 44;
 
 pub const EXTENSION: usize = 45;
 
+// What every flag of the record that is set holds: a flag is set unless it is 0.
+pub const FLAG: usize = 46;
+
 // Document 01's octets A: no addresses, UMF 2. A group that a case makes present has in it what octets B have.
 pub const PLAIN: Plan = [
     2, // VERSION
@@ -155,20 +158,21 @@ pub const PLAIN: Plan = [
     27, // MINUTE
     55, // SECOND
     ABSENT, // EXTENSION
+    1, // FLAG
 ];
 
 // The labels of the keys, in their order.
-const LABELS: [u8; 467] =
+const LABELS: [u8; 476] =
     *b"version,compression,URN,name of,no form,place,character,recipients,recipient's URN,\
         recipient's name of,next recipient's URN,information addressees,\
         information addressee's URN,header size,blocks,next UMF,next size,next R/C,UMF,\
         standard version,FAD,message number,subtype,file name of,size,operation,retransmit,\
         precedence,classification,marking of,G5,G6,requests,R/C,CANTCO,CANTPRO,amplification of,\
-        references,reference's URN,year,month,day,hour,minute,second,extension";
+        references,reference's URN,year,month,day,hour,minute,second,extension,flags of";
 
 pub fn changed(plan: Plan, key: usize, value: u32) -> Plan {
     let mut p = plan;
-    if key < 46 {
+    if key < 47 {
         p[key] = value;
     }
     p

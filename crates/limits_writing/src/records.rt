@@ -1,77 +1,18 @@
-// The record that a plan describes. The cell of a number, length or count that is absent holds ABSENT, which is
-// illegal everywhere.
+// The record that a plan describes, put into octets, struct by struct.
+ghost use mathlib.Core.Path.{_≡_};
+ghost use lib.ListN.{length};
+ghost use Rattle.record_octets.specs.Record.{sizeOfAddresses, sizeOfAddressesList, sizeOfBlocks, sizeOfBlocksList, sizeOfFront, sizeOfHeader, sizeOfOptionalAddress, sizeOfOptionalAddresses};
+use crate::block::block;
+use crate::parts::*;
 use crate::plan::*;
-use header::Address;
-use header::Addresses;
-use header::Block;
-use header::Blocks;
-use header::Codes;
-use header::Compliance;
-use header::Date;
-use header::Dtg;
-use header::Format;
-use header::Front;
-use header::Handling;
-use header::Header;
-use header::Identity;
-use header::OptionalAddress;
-use header::OptionalAddresses;
-use header::OptionalDtg;
-use header::OptionalIdentity;
-use header::OptionalReferences;
-use header::OptionalRequests;
-use header::OptionalResponse;
-use header::OptionalStamp;
-use header::OptionalText;
-use header::Reference;
-use header::References;
-use header::Requests;
-use header::Response;
-use header::Stamp;
-use header::Time;
-use header::Times;
-use optional::OptionalNumber;
-use text::Text;
-
-// No two alike, so that one out of its place would show; the last is the largest that is legal.
-const CHARACTERS: [u8; 64] = *b"?@ABCDEFGHIJKLMNOPQRSTUVWXYZ[\\]^_`abcdefghijklmnopqrstuvwxyz{|}~";
-
-fn optional(value: u32) -> OptionalNumber {
-    OptionalNumber {
-        present: value != ABSENT,
-        value: value,
-    }
-}
-
-// A length over the maximum is put down all the same.
-fn optional_text(len: u32) -> OptionalText {
-    OptionalText {
-        present: len != ABSENT,
-        text: Text {
-            chars: CHARACTERS,
-            len: len,
-        },
-    }
-}
-
-fn address(urn: u32, len: u32) -> Address {
-    Address {
-        urn: optional(urn),
-        name: optional_text(len),
-    }
-}
-
-fn entries(first: Address, rest: Address, count: u32) -> OptionalAddresses {
-    let mut list = [rest; 16];
-    list[0] = first;
-    OptionalAddresses {
-        present: count != ABSENT,
-        addresses: Addresses {
-            list: list,
-            count: count,
-        },
-    }
-}
+use cells::store_word;
+use record_octets::RECORD;
+use record_octets::in_addresses;
+use record_octets::in_blocks;
+use record_octets::in_front;
+use record_octets::in_header;
+use record_octets::in_optional_address;
+use record_octets::in_optional_addresses;
 
 fn characters(place: u32, character: u32) -> [u8; 64] {
     let mut chars = CHARACTERS;
@@ -81,162 +22,107 @@ fn characters(place: u32, character: u32) -> [u8; 64] {
     chars
 }
 
-fn originator(p: Plan) -> OptionalAddress {
-    let urn = optional(p[URN]);
-    let named = p[NAME] != ABSENT;
-    OptionalAddress {
-        present: urn.present | named | (p[NEITHER] == 1),
-        address: Address {
-            urn: urn,
-            name: OptionalText {
-                present: named,
-                text: Text {
-                    chars: characters(p[PLACE], p[CHARACTER]),
-                    len: p[NAME],
-                },
-            },
-        },
+// G1.
+fn originator(x: &mut [u8], p: Plan)
+    requires { ⌜ length (now x) ≡ sizeOfOptionalAddress ⌝ }
+{
+    let present = (p[URN] != ABSENT) | (p[NAME] != ABSENT) | (p[NEITHER] == 1);
+    flag(
+        &mut x[in_optional_address::PRESENT..in_optional_address::ADDRESS],
+        present,
+        mark(p),
+    );
+    let chars = characters(p[PLACE], p[CHARACTER]);
+    let there = &mut x[in_optional_address::ADDRESS..in_optional_address::END];
+    address(there, p[URN], chars, p[NAME], mark(p));
+}
+
+// All alike.
+fn address_list(list: &mut [u8], urn: u32, len: u32, mark: u8)
+    requires { ⌜ length (now list) ≡ sizeOfAddressesList ⌝ }
+{
+    let mut i: usize = 0;
+    while i < 16 {
+        let at = i * in_addresses::ENTRY;
+        address(
+            &mut list[at..at + in_addresses::ENTRY],
+            urn,
+            CHARACTERS,
+            len,
+            mark,
+        );
+        i += 1;
     }
 }
 
-fn recipients(p: Plan) -> OptionalAddresses {
-    let name = p[RECIPIENT_NAME];
-    entries(
-        address(p[RECIPIENT_URN], name),
-        address(p[NEXT_RECIPIENT], name),
-        p[RECIPIENTS],
-    )
+// The first has a URN of its own.
+fn addresses(x: &mut [u8], first: u32, rest: u32, len: u32, count: u32, mark: u8)
+    requires { ⌜ length (now x) ≡ sizeOfAddresses ⌝ }
+{
+    address_list(
+        &mut x[in_addresses::LIST..in_addresses::COUNT],
+        rest,
+        len,
+        mark,
+    );
+    address(
+        &mut x[in_addresses::LIST..in_addresses::ENTRY],
+        first,
+        CHARACTERS,
+        len,
+        mark,
+    );
+    store_word(&mut x[in_addresses::COUNT..in_addresses::END], count);
 }
 
-fn front(p: Plan) -> Front {
-    let addressee = address(p[INFORMATION_URN], ABSENT);
-    Front {
-        version: p[VERSION],
-        compression: optional(p[COMPRESSION]),
-        originator: originator(p),
-        recipients: recipients(p),
-        information: entries(addressee, addressee, p[INFORMATION]),
-    }
+// G2.
+fn recipients(x: &mut [u8], p: Plan)
+    requires { ⌜ length (now x) ≡ sizeOfOptionalAddresses ⌝ }
+{
+    let count = p[RECIPIENTS];
+    flag(
+        &mut x[in_optional_addresses::PRESENT..in_optional_addresses::ADDRESSES],
+        count != ABSENT,
+        mark(p),
+    );
+    let there = &mut x[in_optional_addresses::ADDRESSES..in_optional_addresses::END];
+    addresses(
+        there,
+        p[RECIPIENT_URN],
+        p[NEXT_RECIPIENT],
+        p[RECIPIENT_NAME],
+        count,
+        mark(p),
+    );
 }
 
-fn dtg(p: Plan) -> Dtg {
-    Dtg {
-        date: Date {
-            year: p[YEAR],
-            month: p[MONTH],
-            day: p[DAY],
-        },
-        time: Time {
-            hour: p[HOUR],
-            minute: p[MINUTE],
-            second: p[SECOND],
-        },
-    }
+// G3.
+fn information(x: &mut [u8], p: Plan)
+    requires { ⌜ length (now x) ≡ sizeOfOptionalAddresses ⌝ }
+{
+    let count = p[INFORMATION];
+    let urn = p[INFORMATION_URN];
+    flag(
+        &mut x[in_optional_addresses::PRESENT..in_optional_addresses::ADDRESSES],
+        count != ABSENT,
+        mark(p),
+    );
+    let there = &mut x[in_optional_addresses::ADDRESSES..in_optional_addresses::END];
+    addresses(there, urn, urn, ABSENT, count, mark(p));
 }
 
-fn stamp(p: Plan) -> Stamp {
-    Stamp {
-        dtg: dtg(p),
-        extension: optional(p[EXTENSION]),
-    }
-}
-
-fn identity(p: Plan) -> OptionalIdentity {
-    OptionalIdentity {
-        present: p[FAD] != ABSENT,
-        identity: Identity {
-            fad: p[FAD],
-            number: p[NUMBER],
-            subtype: optional(p[SUBTYPE]),
-        },
-    }
-}
-
-fn format(p: Plan) -> Format {
-    Format {
-        umf: p[UMF],
-        version: optional(p[STANDARD]),
-        identity: identity(p),
-        file: optional_text(p[FILE]),
-    }
-}
-
-fn handling(p: Plan) -> Handling {
-    Handling {
-        size: optional(p[SIZE]),
-        codes: Codes {
-            operation: p[OPERATION],
-            retransmit: p[RETRANSMIT],
-            precedence: p[PRECEDENCE],
-            classification: p[CLASSIFICATION],
-        },
-        marking: optional_text(p[MARKING]),
-    }
-}
-
-// The requests are the three bits of a number, the machine's the lowest.
-fn requests(bits: u32) -> OptionalRequests {
-    OptionalRequests {
-        present: bits != ABSENT,
-        requests: Requests {
-            machine: bits % 2 == 1,
-            acknowledge: bits / 2 % 2 == 1,
-            reply: bits / 4 % 2 == 1,
-        },
-    }
-}
-
-fn times(p: Plan) -> Times {
-    Times {
-        origin: OptionalStamp {
-            present: p[G5] == 1,
-            stamp: stamp(p),
-        },
-        perish: OptionalDtg {
-            present: p[G6] == 1,
-            dtg: dtg(p),
-        },
-        requests: requests(p[REQUESTS]),
-    }
-}
-
-fn response(p: Plan) -> OptionalResponse {
-    OptionalResponse {
-        present: p[CODE] != ABSENT,
-        response: Response {
-            stamp: stamp(p),
-            compliance: Compliance {
-                code: p[CODE],
-                cantco: optional(p[CANTCO]),
-                cantpro: optional(p[CANTPRO]),
-            },
-            amplification: optional_text(p[AMPLIFICATION]),
-        },
-    }
-}
-
-fn references(p: Plan) -> OptionalReferences {
-    let entry = Reference {
-        address: address(p[REFERENCE_URN], ABSENT),
-        stamp: stamp(p),
-    };
-    OptionalReferences {
-        present: p[REFERENCES] != ABSENT,
-        references: References {
-            list: [entry; 4],
-            count: p[REFERENCES],
-        },
-    }
-}
-
-fn block(p: Plan) -> Block {
-    Block {
-        format: format(p),
-        handling: handling(p),
-        times: times(p),
-        response: response(p),
-        references: references(p),
-    }
+fn front(x: &mut [u8], p: Plan)
+    requires { ⌜ length (now x) ≡ sizeOfFront ⌝ }
+{
+    store_word(&mut x[in_front::VERSION..in_front::COMPRESSION], p[VERSION]);
+    optional(
+        &mut x[in_front::COMPRESSION..in_front::ORIGINATOR],
+        p[COMPRESSION],
+        mark(p),
+    );
+    originator(&mut x[in_front::ORIGINATOR..in_front::RECIPIENTS], p);
+    recipients(&mut x[in_front::RECIPIENTS..in_front::INFORMATION], p);
+    information(&mut x[in_front::INFORMATION..in_front::END], p);
 }
 
 // The plan of the blocks behind the first.
@@ -248,19 +134,38 @@ fn next(p: Plan) -> Plan {
     q
 }
 
-fn blocks(p: Plan) -> Blocks {
-    let mut list = [block(next(p)); 16];
-    list[0] = block(p);
-    Blocks {
-        list: list,
-        count: p[BLOCKS],
+// All alike.
+fn block_list(list: &mut [u8], p: Plan)
+    requires { ⌜ length (now list) ≡ sizeOfBlocksList ⌝ }
+{
+    let mut i: usize = 0;
+    while i < 16 {
+        let at = i * in_blocks::ENTRY;
+        block(&mut list[at..at + in_blocks::ENTRY], p);
+        i += 1;
     }
 }
 
-pub fn record(p: Plan) -> Header {
-    Header {
-        front: front(p),
-        sized: p[SIZED] == 1,
-        blocks: blocks(p),
-    }
+fn blocks(x: &mut [u8], p: Plan)
+    requires { ⌜ length (now x) ≡ sizeOfBlocks ⌝ }
+{
+    block_list(&mut x[in_blocks::LIST..in_blocks::COUNT], next(p));
+    block(&mut x[in_blocks::LIST..in_blocks::ENTRY], p);
+    store_word(&mut x[in_blocks::COUNT..in_blocks::END], p[BLOCKS]);
+}
+
+fn header(x: &mut [u8], p: Plan)
+    requires { ⌜ length (now x) ≡ sizeOfHeader ⌝ }
+{
+    front(&mut x[in_header::FRONT..in_header::SIZED], p);
+    flag(
+        &mut x[in_header::SIZED..in_header::BLOCKS],
+        p[SIZED] == 1,
+        mark(p),
+    );
+    blocks(&mut x[in_header::BLOCKS..in_header::END], p);
+}
+
+pub fn record(p: Plan, h: &mut [u8; RECORD]) {
+    header(h, p);
 }

@@ -3,9 +3,9 @@
 // output, or all of it, is as it was; and what the reader makes of the header that was written.
 use bits::OctetSize;
 use codec::Fault;
-use header::Header;
 use libc::STDOUT_FILENO;
 use reader::Outcome;
+use record_octets::RECORD;
 use writer::Written;
 
 // The octets of every output. A datagram of 65,507 fits.
@@ -84,7 +84,8 @@ fn print_outcome(outcome: Outcome, length: usize) {
 }
 
 fn print_reading(datagram: &[u8]) {
-    let r = reader::read(datagram);
+    let mut h = [0u8; RECORD];
+    let r = reader::read(datagram, &mut h);
     let outcome = r.outcome;
     print_outcome(outcome, r.length.0);
 }
@@ -157,7 +158,7 @@ fn print_answer(answer: Written, out: &[u8], count: usize, hex: bool) {
 }
 
 // The writer is lent only the first `room` octets.
-fn write_first(h: Header, count: usize, out: &mut [u8], room: usize) -> Written {
+fn write_first(h: &[u8; RECORD], count: usize, out: &mut [u8], room: usize) -> Written {
     if out.len() < room {
         return writer::write(h, OctetSize(count), out);
     }
@@ -165,7 +166,7 @@ fn write_first(h: Header, count: usize, out: &mut [u8], room: usize) -> Written 
 }
 
 // The line behind its name, with the header's octets if they are to be shown.
-pub fn line(h: Header, count: usize, room: usize, hex: bool) {
+pub fn line(h: &[u8; RECORD], count: usize, room: usize, hex: bool) {
     let mut space = [0u8; WHOLE];
     let out: &mut [u8] = &mut space;
     fill(out);

@@ -6,13 +6,15 @@ use crate::plan::*;
 use crate::tell::WHOLE;
 use crate::tell::line;
 use crate::tell::print;
+use record_octets::RECORD;
 
-// The reader sets unused cells to 0, so the record is had from its octets and one of data.
+// The reader sets unused cells to 0, and the octets between the cells, so the record is had from its octets and one of
+// data.
 fn with_zeros() {
     print(b"unused cells 0");
-    let r = reader::read(b"\xA2\x3F\xE0\xBF\x03\x00\x00\x20\x00\x00\x00\x01");
-    let h = r.header;
-    line(h, 1, WHOLE, true);
+    let mut h = [165u8; RECORD];
+    reader::read(b"\xA2\x3F\xE0\xBF\x03\x00\x00\x20\x00\x00\x00\x01", &mut h);
+    line(&h, 1, WHOLE, true);
 }
 
 // What is absent has 4,294,967,295 for its number, length or count. Besides: a character 200 behind the name; URNs

@@ -15,7 +15,7 @@ pub fn octets_c() -> Plan {
 }
 
 // Compression, addresses of both forms, a header size and two blocks, each with all that goes without G8.
-const EVERY: Plan = [
+pub const EVERY: Plan = [
     2, // VERSION
     1, // COMPRESSION
     ABSENT, // URN
@@ -62,10 +62,11 @@ const EVERY: Plan = [
     59, // MINUTE
     58, // SECOND
     4094, // EXTENSION
+    1, // FLAG
 ];
 
 // G8 with an extension, a reason and an amplification, and a message size, which is 0.
-fn reply(code: u32, cantco: u32, cantpro: u32) -> Plan {
+pub fn reply(code: u32, cantco: u32, cantpro: u32) -> Plan {
     let p = changed(changed(PLAIN, URN, 1), RECIPIENTS, 1);
     let p = changed(changed(p, RECIPIENT_URN, 10000000), SIZED, 1);
     let p = changed(changed(p, SIZE, 0), AMPLIFICATION, 50);

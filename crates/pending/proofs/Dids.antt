@@ -11,8 +11,11 @@ use Rattle.codec.proofs.Fields.{and-left, and-right}
 use Rattle.codec.proofs.ListEnds.{count-most}
 use Rattle.header.specs.Table.{addresses, block, blocks}
 use Rattle.header.specs.Zero.{noBlock}
+use Rattle.header.specs.declared.Address.{Address}
+use Rattle.header.specs.declared.Addresses.{Addresses}
 use Rattle.header.specs.declared.Block.{Block}
 use Rattle.header.specs.declared.Header.{Header}
+use Rattle.header.specs.declared.Requests.{Requests}
 use Rattle.header.proofs.Legal.{front-recipients, addressees-legal}
 use Rattle.writer.proofs.Valid.{Valid}
 use Rattle.writer.proofs.Parts.{front-legal, blocks-legal}
@@ -53,19 +56,20 @@ module _ (h : Header) (n count : ℕ) (b : Block) (is : hasBlock h n ≡ true �
   unfolding blocks viewed
   block-is v there = is there (count-most noBlock block 16 15 _ _ (blocks-legal h (v .fields)))
 
-  module _ (key : k ≡ postingKey h b) where
+  -- the requests and the recipients, as loaded
+  module _ (key : k ≡ postingKey h b) (asked : Requests) (asks : asked ≡ b .times .requests .requests) (to : Addresses) (list : to ≡ h .front .recipients .addresses) where
     present : Posts h n count → h .front .recipients .present ≡ true
     present P = and-left (h .front .recipients .present) (leb 1 (h .front .recipients .addresses .count)) (P .addressed)
 
     -- what is asked of the arguments of the operation
-    pub post-asks : (f : ℕ) → f ≡ postingFault h n count → f ≡ 0 → (keyFault k ≡ 0) × (anyOf (askOf (b .times .requests .requests)) ≡ true) × (addresses 15 .check (h .front .recipients .addresses) ≡ 0)
+    pub post-asks : (f : ℕ) → f ≡ postingFault h n count → f ≡ 0 → (keyFault k ≡ 0) × (anyOf (askOf asked) ≡ true) × (addresses 15 .check to ≡ 0)
     unfolding first
     post-asks f e z =
         let P = posts h n count (sym e ∙ z) in
         let i = block-is (P .valid) (P .block-there) in (
           rw (key, i, P .from-legal, P .origin-legal) refl,
-          rw i (and-right (blockAt h n .times .requests .present) _ (P .asking)),
-          addressees-legal (h .front .recipients) (present P) (front-recipients (h .front) (front-legal h (P .valid .fields))),
+          rw (asks, i) (and-right (blockAt h n .times .requests .present) _ (P .asking)),
+          rw list (addressees-legal (h .front .recipients) (present P) (front-recipients (h .front) (front-legal h (P .valid .fields)))),
         )
 
     recipients-are : Posts h n count → take (h .front .recipients .addresses .count) (h .front .recipients .addresses .list) ≡ recipientsOf h
@@ -75,30 +79,33 @@ module _ (h : Header) (n count : ℕ) (b : Block) (is : hasBlock h n ≡ true �
         taken : (p : Bool) → p ≡ true → take (h .front .recipients .addresses .count) (h .front .recipients .addresses .list) ≡ pick p (take (h .front .recipients .addresses .count) (h .front .recipients .addresses .list)) []
         taken p e = rw e
 
-    pub post-did : (t t′ : Table) (f m : ℕ) → f ≡ postingFault h n count → Acted (named f (post (keyOf k) (make (askOf (b .times .requests .requests)) (map addressOf (take (h .front .recipients .addresses .count) (h .front .recipients .addresses .list)))))) t m t′ → Did (posting h n count) t m t′
+    pub post-did : (t t′ : Table) (f m : ℕ) → f ≡ postingFault h n count → Acted (named f (post (keyOf k) (make (askOf asked) (map addressOf (take (to .count) (to .list)))))) t m t′ → Did (posting h n count) t m t′
     unfolding callOf
     post-did t t′ f m e x = did (posting h n count) _ t t′ m (same-named f _ _ _ e named-so) x
       where
-        named-so : postingFault h n count ≡ 0 → _≡_ {A = Operation} (post (keyOf k) (make (askOf (b .times .requests .requests)) (map addressOf (take (h .front .recipients .addresses .count) (h .front .recipients .addresses .list))))) (post (keyOf (postingKey h (blockAt h n))) (make (askOf (blockAt h n .times .requests .requests)) (map addressOf (recipientsOf h))))
+        named-so : postingFault h n count ≡ 0 → _≡_ {A = Operation} (post (keyOf k) (make (askOf asked) (map addressOf (take (to .count) (to .list))))) (post (keyOf (postingKey h (blockAt h n))) (make (askOf (blockAt h n .times .requests .requests)) (map addressOf (recipientsOf h))))
         named-so z =
             let P = posts h n count z in
             let i = block-is (P .valid) (P .block-there) in
             let same : k ≡ postingKey h (blockAt h n) = key ∙ ap (λ (y : Block). postingKey h y) i in
-            λ j. post (keyOf (same j)) (make (askOf (i j .times .requests .requests)) (map addressOf (recipients-are P j)))
+            let wants : asked ≡ blockAt h n .times .requests .requests = asks ∙ ap (λ (y : Block). y .times .requests .requests) i in
+            λ j. post (keyOf (same j)) (make (askOf (wants j)) (map addressOf ((ap (λ (y : Addresses). take (y .count) (y .list)) list ∙ recipients-are P) j)))
 
-  module _ (key : k ≡ receiptKey h b) where
-    pub receipt-asks : (f : ℕ) → f ≡ receiptFault h n count → f ≡ 0 → 0 < b .response .response .compliance .code
+  -- the answerer and the answer's code, as loaded
+  module _ (key : k ≡ receiptKey h b) (who : Address) (from : who ≡ h .front .originator .address) (code : ℕ) (said : code ≡ b .response .response .compliance .code) where
+    pub receipt-asks : (f : ℕ) → f ≡ receiptFault h n count → f ≡ 0 → 0 < code
     receipt-asks f e z =
         let P = answers h n count (sym e ∙ z) in
-        rw (block-is (P .valid) (P .block-there)) (code-some (blockAt h n) (legal-at h count (P .valid) n (P .block-there)) (P .response))
+        rw (said, block-is (P .valid) (P .block-there)) (code-some (blockAt h n) (legal-at h count (P .valid) n (P .block-there)) (P .response))
 
-    pub receipt-did : (t t′ : Table) (f m : ℕ) → f ≡ receiptFault h n count → Acted (named f (receipt (keyOf k) (addressOf (h .front .originator .address), b .response .response .compliance .code))) t m t′ → Did (receiving h n count) t m t′
+    pub receipt-did : (t t′ : Table) (f m : ℕ) → f ≡ receiptFault h n count → Acted (named f (receipt (keyOf k) (addressOf who, code))) t m t′ → Did (receiving h n count) t m t′
     unfolding callOf
     receipt-did t t′ f m e x = did (receiving h n count) _ t t′ m (same-named f _ _ _ e named-so) x
       where
-        named-so : receiptFault h n count ≡ 0 → _≡_ {A = Operation} (receipt (keyOf k) (addressOf (h .front .originator .address), b .response .response .compliance .code)) (receipt (keyOf (receiptKey h (blockAt h n))) (addressOf (h .front .originator .address), blockAt h n .response .response .compliance .code))
+        named-so : receiptFault h n count ≡ 0 → _≡_ {A = Operation} (receipt (keyOf k) (addressOf who, code)) (receipt (keyOf (receiptKey h (blockAt h n))) (addressOf (h .front .originator .address), blockAt h n .response .response .compliance .code))
         named-so z =
             let P = answers h n count z in
             let i = block-is (P .valid) (P .block-there) in
             let same : k ≡ receiptKey h (blockAt h n) = key ∙ ap (λ (y : Block). receiptKey h y) i in
-            λ j. receipt (keyOf (same j)) (addressOf (h .front .originator .address), i j .response .response .compliance .code)
+            let answer : code ≡ blockAt h n .response .response .compliance .code = said ∙ ap (λ (y : Block). y .response .response .compliance .code) i in
+            λ j. receipt (keyOf (same j)) (addressOf (from j), answer j)

@@ -16,16 +16,12 @@ use Rattle.table.specs.declared.Table.{Table}
 use Rattle.arguments.specs.Arguments.{Arguments, posting, receiving, blockAt, callOf}
 use Rattle.pending.specs.Calls.{Did, rowsAfter}
 use Rattle.reader.specs.Reading.{Reading, accepted, rejected, reading, userData}
-use Rattle.reader.specs.Told.{Told, told, toTell, outcomeDone}
+use Rattle.reader.specs.Told.{Told, told, toTell, Holds, outcomeDone}
+use Rattle.record_octets.specs.Record.{headerIn}
 use Rattle.reader.specs.declared.HeaderRead.{HeaderRead}
 use Rattle.playing.specs.Plays.{Plays, turn, after, rowsOf, playedBy, played}
 
 -- ---- whether a block has G8
-
-any-default : {A : Type 0} (l : List A) (i : ℕ) (d e : A) → i < length l → getD l i d ≡ getD l i e
-any-default [] i d e h = absurd (omega arith)
-any-default (x ∷ l) zero d e h = refl
-any-default (x ∷ l) (suc i) d e h = any-default l i d e (omega arith)
 
 past : {A : Type 0} (l : List A) (i : ℕ) (d : A) → length l ≤ i → getD l i d ≡ d
 past [] i d h = refl
@@ -42,12 +38,12 @@ unfolding blockAt noBlock
 past-blocks h zero l k = absurd (omega arith)
 past-blocks h (suc i) l k = sym (ap (λ (b : Block). b .response .present) (past (h .blocks .list) i noBlock (omega arith)))
 
-pub at-block : (h : Header) (n : ℕ) (d : Block) → length (h .blocks .list) ≡ 16 → 1 ≤ n → n ≤ 16 → getD (h .blocks .list) (n - 1) d .response .present ≡ blockAt h n .response .present
+pub at-block : (h : Header) (n : ℕ) (b : Block) → 1 ≤ n → b ≡ getD (h .blocks .list) (n - 1) noBlock → b .response .present ≡ blockAt h n .response .present
 unfolding blockAt
-at-block h zero d l j k = absurd (omega arith)
-at-block h (suc i) d l j k =
-    let e : suc i - 1 ≡ i = omega arith in
-    ap (λ (b : Block). b .response .present) (any-default (h .blocks .list) (suc i - 1) d noBlock (omega arith) ∙ ap (λ (m : ℕ). getD (h .blocks .list) m noBlock) e)
+at-block h zero b j e = absurd (omega arith)
+at-block h (suc i) b j e =
+    let k : suc i - 1 ≡ i = omega arith in
+    ap (λ (x : Block). x .response .present) (e ∙ ap (λ (m : ℕ). getD (h .blocks .list) m noBlock) k)
 
 -- ---- one call
 
@@ -100,16 +96,15 @@ unfolding playedBy toTell
 by-refusal s t (accepted h n) e = let z : _≡_ {A = ℕ} 0 1 = cc in absurd (omega arith)
 by-refusal s t (rejected f p) e = refl
 
-by-record : (s : List ℕ) (t : Table) (x : Reading) → toTell x .done ≡ true → rowsOf (toTell x .header) (length (userData s)) t (toTell x .header .blocks .count) ≡ playedBy s t x
-unfolding playedBy toTell
-by-record s t (accepted h n) e = refl
-by-record s t (rejected f p) e = let z : _≡_ {A = ℕ} 0 1 = cc in absurd (omega arith)
+by-record : (s after : List ℕ) (t : Table) (x : Reading) → toTell x .done ≡ true → Holds x after → rowsOf (headerIn after) (length (userData s)) t (headerIn after .blocks .count) ≡ playedBy s t x
+unfolding playedBy toTell Holds
+by-record s after t (accepted h n) e k = ap (λ (y : Header). rowsOf y (length (userData s)) t (y .blocks .count)) k
+by-record s after t (rejected f p) e k = let z : _≡_ {A = ℕ} 0 1 = cc in absurd (omega arith)
 
 module _ (s : List ℕ) (t : Table) (r : HeaderRead) (e : told r ≡ toTell (reading s)) where
   pub played-refused : outcomeDone (r .outcome) ≡ false → see t ≡ played t s
   played-refused d = by-refusal s t (reading s) (sym (ap (λ (x : Told). x .done) e) ∙ d)
 
-  pub played-record : outcomeDone (r .outcome) ≡ true → (count : ℕ) → count ≡ length (userData s) → (t′ : Table) → see t′ ≡ rowsOf (r .header) count t (r .header .blocks .count) → see t′ ≡ played t s
-  played-record d count k t′ g =
-      let w : r .header ≡ toTell (reading s) .header = ap (λ (x : Told). x .header) e in
-      g ∙ ap₂ (λ (x : Header) (n : ℕ). rowsOf x n t (x .blocks .count)) w k ∙ by-record s t (reading s) (sym (ap (λ (x : Told). x .done) e) ∙ d)
+  pub played-record : outcomeDone (r .outcome) ≡ true → (after : List ℕ) → Holds (reading s) after → (count : ℕ) → count ≡ length (userData s) → (t′ : Table) → see t′ ≡ rowsOf (headerIn after) count t (headerIn after .blocks .count) → see t′ ≡ played t s
+  played-record d after held count k t′ g =
+      g ∙ ap (λ (n : ℕ). rowsOf (headerIn after) n t (headerIn after .blocks .count)) k ∙ by-record s after t (reading s) (sym (ap (λ (x : Told). x .done) e) ∙ d) held

@@ -1,179 +1,120 @@
 // A block's G9: the messages referred to.
 ghost use mathlib.Core.Path.{_≡_};
-ghost use Prim.Native.Nat.{_-_, _≤_};
+ghost use Prim.Native.Nat.{_≤_};
 ghost use lib.ListN.{length};
 ghost use Rattle.bits.specs.Bits.{bitsOf};
 ghost use Rattle.bits.specs.Units.{datagramLimit};
+ghost use Rattle.cells.specs.Cells.{zeros, manyOctets, Each};
 ghost use Rattle.codec.specs.Codec.{_&_};
 ghost use Rattle.codec.specs.Lists.{recurs};
-ghost use Rattle.codec.specs.Refusals.{answer};
 ghost use Rattle.header.specs.Table.{reference, references, optionalReferences};
+ghost use Rattle.into.specs.Into.{Into};
+ghost use Rattle.record_octets.specs.Record.{sizeOfReference, referenceOctets, sizeOfReferencesList, sizeOfReferences, referencesOctets, sizeOfOptionalReferences, optionalReferencesOctets};
+ghost use Rattle.record_octets.specs.Typed.{TypedReference, TypedReferences, TypedOptionalReferences};
 use bits::BitPlace;
+use cells::store_mark;
+use cells::store_word;
 use codec::Flag;
 use codec::Step;
 use flag::read_flag;
 use flag::read_recurs;
-use header::OptionalReferences;
-use header::Reference;
-use header::References;
-use header::zero::no_reference;
-use header::zero::no_references;
 use read_front::address::read_address;
 use read_group::dtg::read_stamp;
+use read_leaves::lists::Entries;
+use read_leaves::lists::Entry;
+use record_octets::in_optional_references;
+use record_octets::in_reference;
+use record_octets::in_references;
 
-pub struct ReferenceRead {
-    pub step: Step,
-    pub reference: Reference,
-}
-
-// A recurrence bit and the reference behind it.
-pub struct EntryRead {
-    pub step: Step,
-    pub more: bool,
-    pub reference: Reference,
-}
-
-pub struct ReferencesRead {
-    pub step: Step,
-    pub references: References,
-}
-
-pub struct OptionalReferencesRead {
-    pub step: Step,
-    pub references: OptionalReferences,
-}
-
-pub fn read_reference(s: &[u8], at: BitPlace) -> ReferenceRead
-    requires { ⌜ length (now s) ≤ datagramLimit ⌝ }
-    ensures { λ r. ⌜ answer (r .step) (r .reference) ≡ reference .read (bitsOf (now (s .entry))) (at .0) ⌝ }
+pub fn read_reference(s: &[u8], at: BitPlace, x: &mut [u8]) -> Step
+    requires { ⌜ (length (now s) ≤ datagramLimit) × (now x ≡ zeros sizeOfReference) × (length (now x) ≡ sizeOfReference) ⌝ }
+    ensures { λ r. ⌜ Into reference referenceOctets TypedReference (bitsOf (now (s .entry))) (at .0) r (now (x .exit)) ⌝ }
 {
-    let a = read_address(s, at);
-    let address = a.address;
-    let step = a.step;
+    let step = read_address(s, at, &mut x[in_reference::ADDRESS..in_reference::STAMP]);
     let Step::Next(at) = step else {
-        return ReferenceRead {
-            step: step,
-            reference: no_reference(),
-        };
+        return step;
     };
-    let a = read_stamp(s, at);
-    let stamp = a.stamp;
-    let step = a.step;
-    let Step::Next(at) = step else {
-        return ReferenceRead {
-            step: step,
-            reference: no_reference(),
-        };
-    };
-    ReferenceRead {
-        step: Step::Next(at),
-        reference: Reference {
-            address: address,
-            stamp: stamp,
-        },
-    }
+    read_stamp(s, at, &mut x[in_reference::STAMP..in_reference::END])
 }
 
-fn read_entry(s: &[u8], at: BitPlace, left: usize) -> EntryRead
-    requires { ⌜ length (now s) ≤ datagramLimit ⌝ }
-    ensures { λ r. ⌜ answer (r .step) (r .more, r .reference) ≡ (recurs left & reference) .read (bitsOf (now (s .entry))) (at .0) ⌝ }
+// An entry behind its recurrence bit, with room for `left` others behind it.
+fn read_entry(s: &[u8], at: BitPlace, left: usize, x: &mut [u8]) -> Entry
+    requires { ⌜ (length (now s) ≤ datagramLimit) × (now x ≡ zeros sizeOfReference) × (length (now x) ≡ sizeOfReference) ⌝ }
+    ensures { λ r. ⌜ Into (recurs left & reference) (λ v. referenceOctets (v .1)) (λ v. (v .0 ≡ r .more) × TypedReference (v .1)) (bitsOf (now (s .entry))) (at .0) (r .step) (now (x .exit)) ⌝ }
 {
     let a = read_recurs(s, at, left);
     let Flag::Got(more, at) = a else {
-        return EntryRead {
+        return Entry {
             step: a.step(),
             more: false,
-            reference: no_reference(),
         };
     };
-    let a = read_reference(s, at);
-    let x = a.reference;
-    let step = a.step;
-    let Step::Next(at) = step else {
-        return EntryRead {
-            step: step,
-            more: false,
-            reference: no_reference(),
-        };
-    };
-    EntryRead {
-        step: Step::Next(at),
+    let step = read_reference(s, at, x);
+    Entry {
+        step: step,
         more: more,
-        reference: x,
     }
 }
 
-// 1 to 4 references.
-pub fn read_references(s: &[u8], at: BitPlace) -> ReferencesRead
-    requires { ⌜ length (now s) ≤ datagramLimit ⌝ }
-    ensures { λ r. ⌜ answer (r .step) (r .references) ≡ references .read (bitsOf (now (s .entry))) (at .0) ⌝ }
+// The entries of a list of 1 to 4.
+fn read_entries(s: &[u8], at: BitPlace, list: &mut [u8]) -> Entries
+    requires { ⌜ (length (now s) ≤ datagramLimit) × (now list ≡ zeros sizeOfReferencesList) ⌝ }
+    ensures { λ r. ⌜ Into references (λ v. manyOctets referenceOctets (v .list)) (λ v. (v .count ≡ r .count) × (length (v .list) ≡ 4) × Each TypedReference (v .list)) (bitsOf (now (s .entry))) (at .0) (r .step) (now (list .exit)) ⌝ }
 {
-    let none = no_reference();
-    let mut list = [none; 4];
     let mut n: usize = 0;
     let mut place = at;
     loop {
-        let e = read_entry(s, place, 3 - n);
+        let to = n * in_references::ENTRY;
+        let e = read_entry(s, place, 3 - n, &mut list[to..to + in_references::ENTRY]);
         let step = e.step;
         let Step::Next(next) = step else {
-            return ReferencesRead {
+            return Entries {
                 step: step,
-                references: no_references(),
+                count: 0,
             };
         };
-        let x = e.reference;
-        list[n] = x;
         n += 1;
         place = next;
         let more = e.more;
         if !more {
-            return ReferencesRead {
+            return Entries {
                 step: Step::Next(place),
-                references: References {
-                    list: list,
-                    count: n as u32,
-                },
+                count: n as u32,
             };
         }
     }
 }
 
-// G9.
-pub fn read_optional_references(s: &[u8], at: BitPlace) -> OptionalReferencesRead
-    requires { ⌜ length (now s) ≤ datagramLimit ⌝ }
-    ensures { λ r. ⌜ answer (r .step) (r .references) ≡ optionalReferences .read (bitsOf (now (s .entry))) (at .0) ⌝ }
+// 1 to 4 references.
+pub fn read_references(s: &[u8], at: BitPlace, x: &mut [u8]) -> Step
+    requires { ⌜ (length (now s) ≤ datagramLimit) × (now x ≡ zeros sizeOfReferences) × (length (now x) ≡ sizeOfReferences) ⌝ }
+    ensures { λ r. ⌜ Into references referencesOctets TypedReferences (bitsOf (now (s .entry))) (at .0) r (now (x .exit)) ⌝ }
 {
-    let none = OptionalReferences {
-        present: false,
-        references: no_references(),
-    };
+    let a = read_entries(s, at, &mut x[in_references::LIST..in_references::COUNT]);
+    let step = a.step;
+    store_word(&mut x[in_references::COUNT..in_references::END], a.count);
+    step
+}
+
+// G9.
+pub fn read_optional_references(s: &[u8], at: BitPlace, x: &mut [u8]) -> Step
+    requires { ⌜ (length (now s) ≤ datagramLimit) × (now x ≡ zeros sizeOfOptionalReferences) × (length (now x) ≡ sizeOfOptionalReferences) ⌝ }
+    ensures { λ r. ⌜ Into optionalReferences optionalReferencesOctets TypedOptionalReferences (bitsOf (now (s .entry))) (at .0) r (now (x .exit)) ⌝ }
+{
     let a = read_flag(s, at);
     let Flag::Got(present, at) = a else {
-        return OptionalReferencesRead {
-            step: a.step(),
-            references: none,
-        };
+        return a.step();
     };
     if present {
-        let b = read_references(s, at);
-        let x = b.references;
-        let step = b.step;
-        let Step::Next(at) = step else {
-            return OptionalReferencesRead {
-                step: step,
-                references: none,
-            };
-        };
-        return OptionalReferencesRead {
-            step: Step::Next(at),
-            references: OptionalReferences {
-                present: present,
-                references: x,
-            },
-        };
+        store_mark(
+            &mut x[in_optional_references::PRESENT..in_optional_references::REFERENCES],
+            present,
+        );
+        return read_references(
+            s,
+            at,
+            &mut x[in_optional_references::REFERENCES..in_optional_references::END],
+        );
     }
-    OptionalReferencesRead {
-        step: Step::Next(at),
-        references: none,
-    }
+    Step::Next(at)
 }

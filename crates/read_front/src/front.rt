@@ -1,300 +1,147 @@
 // The originator, the recipients and the information addressees, and all fields up to their end.
 ghost use mathlib.Core.Path.{_≡_};
-ghost use Prim.Native.Nat.{_≤_};
+ghost use Prim.Native.Nat.{_<_, _≤_};
+ghost use mathlib.Core.List.{_++_};
 ghost use lib.ListN.{length};
 ghost use Rattle.bits.specs.Bits.{bitsOf};
 ghost use Rattle.bits.specs.Units.{datagramLimit};
-ghost use Rattle.codec.specs.Codec.{number, _&_, _thenBy_};
-ghost use Rattle.codec.specs.Refusals.{answer};
-ghost use Rattle.header.specs.Table.{maybe, originator, recipients, roomBehind, information, front};
+ghost use Rattle.cells.specs.Cells.{zeros, wordOctets};
+ghost use Rattle.codec.specs.Codec.{number, _&_};
+ghost use Rattle.header.specs.Table.{maybe, originator, recipients, information, front};
+ghost use Rattle.into.specs.Into.{Into};
+ghost use Rattle.record_octets.specs.Record.{optionalNumberOctets, sizeOfOptionalAddress, optionalAddressOctets, sizeOfOptionalAddresses, optionalAddressesOctets, sizeOfFront, frontOctets};
+ghost use Rattle.record_octets.specs.Typed.{TypedOptionalNumber, TypedOptionalAddress, TypedOptionalAddresses, TypedFront};
 use crate::address::read_address;
 use crate::address::read_addresses;
 use bits::BitPlace;
+use cells::store_mark;
 use codec::Fault;
 use codec::Flag;
-use codec::Number;
 use codec::Step;
 use flag::read_flag;
 use flag::read_recurs;
-use header::Front;
-use header::OptionalAddress;
-use header::OptionalAddresses;
 use header::addressees::one_less;
-use header::addressees::room_behind;
 use header::layout::COMPRESSION;
 use header::layout::VERSION;
-use header::zero::NO_NUMBER;
-use header::zero::no_address;
-use header::zero::no_addresses;
-use header::zero::no_front;
-use number::read_number;
-use optional::OptionalNumber;
-use optional::read_optional;
-
-pub struct OriginatorRead {
-    pub step: Step,
-    pub originator: OptionalAddress,
-}
-
-pub struct AddresseesRead {
-    pub step: Step,
-    pub addressees: OptionalAddresses,
-}
-
-// Version, compression and originator.
-pub struct OriginRead {
-    pub step: Step,
-    pub version: u32,
-    pub compression: OptionalNumber,
-    pub originator: OptionalAddress,
-}
-
-// Recipients and information addressees.
-pub struct AddressedRead {
-    pub step: Step,
-    pub recipients: OptionalAddresses,
-    pub information: OptionalAddresses,
-}
-
-pub struct FrontRead {
-    pub step: Step,
-    pub front: Front,
-}
+use leaves::addressees::room_behind;
+use read_leaves::numbers::read_optional;
+use read_leaves::numbers::read_word;
+use record_octets::in_front;
+use record_octets::in_optional_address;
+use record_octets::in_optional_addresses;
 
 // G1.
-pub fn read_originator(s: &[u8], at: BitPlace) -> OriginatorRead
-    requires { ⌜ length (now s) ≤ datagramLimit ⌝ }
-    ensures { λ r. ⌜ answer (r .step) (r .originator) ≡ originator .read (bitsOf (now (s .entry))) (at .0) ⌝ }
+pub fn read_originator(s: &[u8], at: BitPlace, x: &mut [u8]) -> Step
+    requires { ⌜ (length (now s) ≤ datagramLimit) × (now x ≡ zeros sizeOfOptionalAddress) × (length (now x) ≡ sizeOfOptionalAddress) ⌝ }
+    ensures { λ r. ⌜ Into originator optionalAddressOctets TypedOptionalAddress (bitsOf (now (s .entry))) (at .0) r (now (x .exit)) ⌝ }
 {
-    let none = OptionalAddress {
-        present: false,
-        address: no_address(),
-    };
     let a = read_flag(s, at);
     let Flag::Got(present, at) = a else {
-        return OriginatorRead {
-            step: a.step(),
-            originator: none,
-        };
+        return a.step();
     };
     if present {
-        let b = read_address(s, at);
-        let x = b.address;
-        let step = b.step;
-        let Step::Next(at) = step else {
-            return OriginatorRead {
-                step: step,
-                originator: none,
-            };
-        };
-        return OriginatorRead {
-            step: Step::Next(at),
-            originator: OptionalAddress {
-                present: present,
-                address: x,
-            },
-        };
+        store_mark(
+            &mut x[in_optional_address::PRESENT..in_optional_address::ADDRESS],
+            present,
+        );
+        return read_address(
+            s,
+            at,
+            &mut x[in_optional_address::ADDRESS..in_optional_address::END],
+        );
     }
-    OriginatorRead {
-        step: Step::Next(at),
-        originator: none,
-    }
+    Step::Next(at)
 }
 
 // G2.
-pub fn read_recipients(s: &[u8], at: BitPlace) -> AddresseesRead
-    requires { ⌜ length (now s) ≤ datagramLimit ⌝ }
-    ensures { λ r. ⌜ answer (r .step) (r .addressees) ≡ recipients .read (bitsOf (now (s .entry))) (at .0) ⌝ }
+pub fn read_recipients(s: &[u8], at: BitPlace, x: &mut [u8]) -> Step
+    requires { ⌜ (length (now s) ≤ datagramLimit) × (now x ≡ zeros sizeOfOptionalAddresses) × (length (now x) ≡ sizeOfOptionalAddresses) ⌝ }
+    ensures { λ r. ⌜ Into recipients optionalAddressesOctets TypedOptionalAddresses (bitsOf (now (s .entry))) (at .0) r (now (x .exit)) ⌝ }
 {
-    let none = OptionalAddresses {
-        present: false,
-        addresses: no_addresses(),
-    };
     let a = read_flag(s, at);
     let Flag::Got(present, at) = a else {
-        return AddresseesRead {
-            step: a.step(),
-            addressees: none,
-        };
+        return a.step();
     };
     if present {
-        let b = read_addresses(s, at, 15);
-        let x = b.addresses;
-        let step = b.step;
-        let Step::Next(at) = step else {
-            return AddresseesRead {
-                step: step,
-                addressees: none,
-            };
-        };
-        return AddresseesRead {
-            step: Step::Next(at),
-            addressees: OptionalAddresses {
-                present: present,
-                addresses: x,
-            },
-        };
+        store_mark(
+            &mut x[in_optional_addresses::PRESENT..in_optional_addresses::ADDRESSES],
+            present,
+        );
+        return read_addresses(
+            s,
+            at,
+            15,
+            &mut x[in_optional_addresses::ADDRESSES..in_optional_addresses::END],
+        );
     }
-    AddresseesRead {
-        step: Step::Next(at),
-        addressees: none,
-    }
+    Step::Next(at)
 }
 
 // G3, with room for so many. Its presence bit asks for one more, as a recurrence bit does.
-pub fn read_information(s: &[u8], at: BitPlace, room: usize) -> AddresseesRead
-    requires { ⌜ (length (now s) ≤ datagramLimit) × (room ≤ 16) ⌝ }
-    ensures { λ r. ⌜ answer (r .step) (r .addressees) ≡ information room .read (bitsOf (now (s .entry))) (at .0) ⌝ }
+pub fn read_information(s: &[u8], at: BitPlace, room: usize, x: &mut [u8]) -> Step
+    requires { ⌜ (length (now s) ≤ datagramLimit) × (now x ≡ zeros sizeOfOptionalAddresses) × (length (now x) ≡ sizeOfOptionalAddresses) × (room ≤ 16) ⌝ }
+    ensures { λ r. ⌜ Into (information room) optionalAddressesOctets TypedOptionalAddresses (bitsOf (now (s .entry))) (at .0) r (now (x .exit)) ⌝ }
 {
-    let none = OptionalAddresses {
-        present: false,
-        addresses: no_addresses(),
-    };
     let left = one_less(room);
     let a = read_recurs(s, at, room);
     let Flag::Got(present, at) = a else {
-        return AddresseesRead {
-            step: a.step(),
-            addressees: none,
-        };
+        return a.step();
     };
     if present {
-        let b = read_addresses(s, at, left);
-        let x = b.addresses;
-        let step = b.step;
-        let Step::Next(at) = step else {
-            return AddresseesRead {
-                step: step,
-                addressees: none,
-            };
-        };
-        return AddresseesRead {
-            step: Step::Next(at),
-            addressees: OptionalAddresses {
-                present: present,
-                addresses: x,
-            },
-        };
+        store_mark(
+            &mut x[in_optional_addresses::PRESENT..in_optional_addresses::ADDRESSES],
+            present,
+        );
+        return read_addresses(
+            s,
+            at,
+            left,
+            &mut x[in_optional_addresses::ADDRESSES..in_optional_addresses::END],
+        );
     }
-    AddresseesRead {
-        step: Step::Next(at),
-        addressees: none,
-    }
+    Step::Next(at)
 }
 
-// A refusal on the way; what was read is not looked at.
-fn stopped_origin(step: Step) -> OriginRead
-    ensures { λ r. ⌜ r .step ≡ step ⌝ }
+// Version, compression and G1: the first 96 octets.
+fn read_origin(s: &[u8], at: BitPlace, x: &mut [u8]) -> Step
+    requires { ⌜ (length (now s) ≤ datagramLimit) × (now x ≡ zeros 96) × (length (now x) ≡ 96) ⌝ }
+    ensures { λ r. ⌜ Into (number 4 2 2 2 & maybe 2 0 1 & originator) (λ v. wordOctets (v .0) ++ optionalNumberOctets (v .1 .0) ++ optionalAddressOctets (v .1 .1)) (λ v. (v .0 < 4294967296) × TypedOptionalNumber (v .1 .0) × TypedOptionalAddress (v .1 .1)) (bitsOf (now (s .entry))) (at .0) r (now (x .exit)) ⌝ }
 {
-    OriginRead {
-        step: step,
-        version: 0,
-        compression: NO_NUMBER,
-        originator: OptionalAddress {
-            present: false,
-            address: no_address(),
-        },
-    }
-}
-
-fn read_origin(s: &[u8], at: BitPlace) -> OriginRead
-    requires { ⌜ length (now s) ≤ datagramLimit ⌝ }
-    ensures { λ r. ⌜ answer (r .step) (r .version, (r .compression, r .originator)) ≡ (number 4 2 2 2 & maybe 2 0 1 & originator) .read (bitsOf (now (s .entry))) (at .0) ⌝ }
-{
-    let a = read_number(s, at, VERSION, Fault::Version);
-    let Number::Got(version, at) = a else {
-        return stopped_origin(a.step());
-    };
-    let a = read_optional(s, at, COMPRESSION);
-    let compression = a.number;
-    let step = a.step;
+    let step = read_word(
+        s,
+        at,
+        VERSION,
+        Fault::Version,
+        &mut x[in_front::VERSION..in_front::COMPRESSION],
+    );
     let Step::Next(at) = step else {
-        return stopped_origin(step);
+        return step;
     };
-    let a = read_originator(s, at);
-    let originator = a.originator;
-    let step = a.step;
+    let step = read_optional(
+        s,
+        at,
+        COMPRESSION,
+        &mut x[in_front::COMPRESSION..in_front::ORIGINATOR],
+    );
     let Step::Next(at) = step else {
-        return stopped_origin(step);
+        return step;
     };
-    OriginRead {
-        step: Step::Next(at),
-        version: version,
-        compression: compression,
-        originator: originator,
-    }
-}
-
-fn read_addressed(s: &[u8], at: BitPlace) -> AddressedRead
-    requires { ⌜ length (now s) ≤ datagramLimit ⌝ }
-    ensures { λ r. ⌜ answer (r .step) (r .recipients, r .information) ≡ (recipients thenBy (λ g. information (roomBehind g))) .read (bitsOf (now (s .entry))) (at .0) ⌝ }
-{
-    let none = OptionalAddresses {
-        present: false,
-        addresses: no_addresses(),
-    };
-    let a = read_recipients(s, at);
-    let recipients = a.addressees;
-    let step = a.step;
-    let Step::Next(at) = step else {
-        return AddressedRead {
-            step: step,
-            recipients: none,
-            information: none,
-        };
-    };
-    let room = room_behind(recipients);
-    let a = read_information(s, at, room);
-    let information = a.addressees;
-    let step = a.step;
-    let Step::Next(at) = step else {
-        return AddressedRead {
-            step: step,
-            recipients: none,
-            information: none,
-        };
-    };
-    AddressedRead {
-        step: Step::Next(at),
-        recipients: recipients,
-        information: information,
-    }
+    read_originator(s, at, &mut x[in_front::ORIGINATOR..in_front::RECIPIENTS])
 }
 
 // Every field up to the end of G3.
-pub fn read_front(s: &[u8], at: BitPlace) -> FrontRead
-    requires { ⌜ length (now s) ≤ datagramLimit ⌝ }
-    ensures { λ r. ⌜ answer (r .step) (r .front) ≡ front .read (bitsOf (now (s .entry))) (at .0) ⌝ }
+pub fn read_front(s: &[u8], at: BitPlace, x: &mut [u8]) -> Step
+    requires { ⌜ (length (now s) ≤ datagramLimit) × (now x ≡ zeros sizeOfFront) × (length (now x) ≡ sizeOfFront) ⌝ }
+    ensures { λ r. ⌜ Into front frontOctets TypedFront (bitsOf (now (s .entry))) (at .0) r (now (x .exit)) ⌝ }
 {
-    let a = read_origin(s, at);
-    let originator = a.originator;
-    let compression = a.compression;
-    let step = a.step;
+    let step = read_origin(s, at, &mut x[in_front::VERSION..in_front::RECIPIENTS]);
     let Step::Next(at) = step else {
-        return FrontRead {
-            step: step,
-            front: no_front(),
-        };
+        return step;
     };
-    let b = read_addressed(s, at);
-    let recipients = b.recipients;
-    let information = b.information;
-    let step = b.step;
+    let step = read_recipients(s, at, &mut x[in_front::RECIPIENTS..in_front::INFORMATION]);
     let Step::Next(at) = step else {
-        return FrontRead {
-            step: step,
-            front: no_front(),
-        };
+        return step;
     };
-    let version = a.version;
-    FrontRead {
-        step: Step::Next(at),
-        front: Front {
-            version: version,
-            compression: compression,
-            originator: originator,
-            recipients: recipients,
-            information: information,
-        },
-    }
+    let room = room_behind(&x[in_front::RECIPIENTS..in_front::INFORMATION]);
+    read_information(s, at, room, &mut x[in_front::INFORMATION..in_front::END])
 }

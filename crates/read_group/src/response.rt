@@ -4,159 +4,102 @@ ghost use Prim.Native.Nat.{_≤_};
 ghost use lib.ListN.{length};
 ghost use Rattle.bits.specs.Bits.{bitsOf};
 ghost use Rattle.bits.specs.Units.{datagramLimit};
-ghost use Rattle.codec.specs.Refusals.{answer};
+ghost use Rattle.cells.specs.Cells.{zeros};
 ghost use Rattle.header.specs.Table.{compliance, response, optionalResponse};
+ghost use Rattle.into.specs.Into.{Into};
+ghost use Rattle.record_octets.specs.Record.{sizeOfCompliance, complianceOctets, sizeOfResponse, responseOctets, sizeOfOptionalResponse, optionalResponseOctets};
+ghost use Rattle.record_octets.specs.Typed.{TypedCompliance, TypedResponse, TypedOptionalResponse};
 use crate::dtg::read_stamp;
 use bits::BitPlace;
+use cells::store_mark;
 use codec::Fault;
 use codec::Flag;
-use codec::Number;
 use codec::Step;
 use flag::read_flag;
-use header::Compliance;
-use header::OptionalResponse;
-use header::Response;
 use header::layout::AMPLIFICATION;
 use header::layout::CANTCO;
 use header::layout::CANTPRO;
 use header::layout::COMPLIANCE;
-use header::zero::NO_COMPLIANCE;
-use header::zero::no_response;
-use number::read_number;
-use optional::read_optional;
-use read_front::texts::read_optional_text;
+use read_leaves::numbers::read_optional;
+use read_leaves::numbers::read_word;
+use read_leaves::texts::read_optional_text;
+use record_octets::in_compliance;
+use record_octets::in_optional_response;
+use record_octets::in_response;
 
-pub struct ComplianceRead {
-    pub step: Step,
-    pub compliance: Compliance,
-}
-
-pub struct ResponseRead {
-    pub step: Step,
-    pub response: Response,
-}
-
-pub struct OptionalResponseRead {
-    pub step: Step,
-    pub response: OptionalResponse,
-}
-
-pub fn read_compliance(s: &[u8], at: BitPlace) -> ComplianceRead
-    requires { ⌜ length (now s) ≤ datagramLimit ⌝ }
-    ensures { λ r. ⌜ answer (r .step) (r .compliance) ≡ compliance .read (bitsOf (now (s .entry))) (at .0) ⌝ }
+pub fn read_compliance(s: &[u8], at: BitPlace, x: &mut [u8]) -> Step
+    requires { ⌜ (length (now s) ≤ datagramLimit) × (now x ≡ zeros sizeOfCompliance) × (length (now x) ≡ sizeOfCompliance) ⌝ }
+    ensures { λ r. ⌜ Into compliance complianceOctets TypedCompliance (bitsOf (now (s .entry))) (at .0) r (now (x .exit)) ⌝ }
 {
-    let a = read_number(s, at, COMPLIANCE, Fault::Code);
-    let Number::Got(code, at) = a else {
-        return ComplianceRead {
-            step: a.step(),
-            compliance: NO_COMPLIANCE,
-        };
-    };
-    let a = read_optional(s, at, CANTCO);
-    let cantco = a.number;
-    let step = a.step;
+    let step = read_word(
+        s,
+        at,
+        COMPLIANCE,
+        Fault::Code,
+        &mut x[in_compliance::CODE..in_compliance::CANTCO],
+    );
     let Step::Next(at) = step else {
-        return ComplianceRead {
-            step: step,
-            compliance: NO_COMPLIANCE,
-        };
+        return step;
     };
-    let a = read_optional(s, at, CANTPRO);
-    let cantpro = a.number;
-    let step = a.step;
+    let step = read_optional(
+        s,
+        at,
+        CANTCO,
+        &mut x[in_compliance::CANTCO..in_compliance::CANTPRO],
+    );
     let Step::Next(at) = step else {
-        return ComplianceRead {
-            step: step,
-            compliance: NO_COMPLIANCE,
-        };
+        return step;
     };
-    ComplianceRead {
-        step: Step::Next(at),
-        compliance: Compliance {
-            code: code,
-            cantco: cantco,
-            cantpro: cantpro,
-        },
-    }
+    read_optional(
+        s,
+        at,
+        CANTPRO,
+        &mut x[in_compliance::CANTPRO..in_compliance::END],
+    )
 }
 
-// A refusal on the way; what was read is not looked at.
-fn stopped_response(step: Step) -> ResponseRead
-    ensures { λ r. ⌜ r .step ≡ step ⌝ }
+pub fn read_response(s: &[u8], at: BitPlace, x: &mut [u8]) -> Step
+    requires { ⌜ (length (now s) ≤ datagramLimit) × (now x ≡ zeros sizeOfResponse) × (length (now x) ≡ sizeOfResponse) ⌝ }
+    ensures { λ r. ⌜ Into response responseOctets TypedResponse (bitsOf (now (s .entry))) (at .0) r (now (x .exit)) ⌝ }
 {
-    ResponseRead {
-        step: step,
-        response: no_response(),
-    }
+    let step = read_stamp(s, at, &mut x[in_response::STAMP..in_response::COMPLIANCE]);
+    let Step::Next(at) = step else {
+        return step;
+    };
+    let step = read_compliance(
+        s,
+        at,
+        &mut x[in_response::COMPLIANCE..in_response::AMPLIFICATION],
+    );
+    let Step::Next(at) = step else {
+        return step;
+    };
+    read_optional_text(
+        s,
+        at,
+        AMPLIFICATION,
+        &mut x[in_response::AMPLIFICATION..in_response::END],
+    )
 }
 
-pub fn read_response(s: &[u8], at: BitPlace) -> ResponseRead
-    requires { ⌜ length (now s) ≤ datagramLimit ⌝ }
-    ensures { λ r. ⌜ answer (r .step) (r .response) ≡ response .read (bitsOf (now (s .entry))) (at .0) ⌝ }
+pub fn read_optional_response(s: &[u8], at: BitPlace, x: &mut [u8]) -> Step
+    requires { ⌜ (length (now s) ≤ datagramLimit) × (now x ≡ zeros sizeOfOptionalResponse) × (length (now x) ≡ sizeOfOptionalResponse) ⌝ }
+    ensures { λ r. ⌜ Into optionalResponse optionalResponseOctets TypedOptionalResponse (bitsOf (now (s .entry))) (at .0) r (now (x .exit)) ⌝ }
 {
-    let a = read_stamp(s, at);
-    let stamp = a.stamp;
-    let step = a.step;
-    let Step::Next(at) = step else {
-        return stopped_response(step);
-    };
-    let a = read_compliance(s, at);
-    let compliance = a.compliance;
-    let step = a.step;
-    let Step::Next(at) = step else {
-        return stopped_response(step);
-    };
-    let a = read_optional_text(s, at, AMPLIFICATION);
-    let amplification = a.text;
-    let step = a.step;
-    let Step::Next(at) = step else {
-        return stopped_response(step);
-    };
-    ResponseRead {
-        step: Step::Next(at),
-        response: Response {
-            stamp: stamp,
-            compliance: compliance,
-            amplification: amplification,
-        },
-    }
-}
-
-pub fn read_optional_response(s: &[u8], at: BitPlace) -> OptionalResponseRead
-    requires { ⌜ length (now s) ≤ datagramLimit ⌝ }
-    ensures { λ r. ⌜ answer (r .step) (r .response) ≡ optionalResponse .read (bitsOf (now (s .entry))) (at .0) ⌝ }
-{
-    let none = OptionalResponse {
-        present: false,
-        response: no_response(),
-    };
     let a = read_flag(s, at);
     let Flag::Got(present, at) = a else {
-        return OptionalResponseRead {
-            step: a.step(),
-            response: none,
-        };
+        return a.step();
     };
     if present {
-        let b = read_response(s, at);
-        let x = b.response;
-        let step = b.step;
-        let Step::Next(at) = step else {
-            return OptionalResponseRead {
-                step: step,
-                response: none,
-            };
-        };
-        return OptionalResponseRead {
-            step: Step::Next(at),
-            response: OptionalResponse {
-                present: present,
-                response: x,
-            },
-        };
+        store_mark(
+            &mut x[in_optional_response::PRESENT..in_optional_response::RESPONSE],
+            present,
+        );
+        return read_response(
+            s,
+            at,
+            &mut x[in_optional_response::RESPONSE..in_optional_response::END],
+        );
     }
-    OptionalResponseRead {
-        step: Step::Next(at),
-        response: none,
-    }
+    Step::Next(at)
 }

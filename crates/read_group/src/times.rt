@@ -4,242 +4,121 @@ ghost use Prim.Native.Nat.{_≤_};
 ghost use lib.ListN.{length};
 ghost use Rattle.bits.specs.Bits.{bitsOf};
 ghost use Rattle.bits.specs.Units.{datagramLimit};
-ghost use Rattle.codec.specs.Refusals.{answer};
+ghost use Rattle.cells.specs.Cells.{zeros};
 ghost use Rattle.header.specs.Table.{optionalStamp, optionalDtg, requests, optionalRequests, times};
+ghost use Rattle.into.specs.Into.{Into};
+ghost use Rattle.record_octets.specs.Record.{sizeOfOptionalStamp, optionalStampOctets, sizeOfOptionalDtg, optionalDtgOctets, sizeOfRequests, requestsOctets, sizeOfOptionalRequests, optionalRequestsOctets, sizeOfTimes, timesOctets};
+ghost use Rattle.record_octets.specs.Typed.{TypedOptionalStamp, TypedOptionalDtg, TypedTimes};
 use crate::dtg::read_dtg;
 use crate::dtg::read_stamp;
 use bits::BitPlace;
+use cells::store_flag;
+use cells::store_mark;
 use codec::Flag;
 use codec::Step;
 use flag::read_flag;
-use header::OptionalDtg;
-use header::OptionalRequests;
-use header::OptionalStamp;
-use header::Requests;
-use header::Times;
-use header::zero::NO_DTG;
-use header::zero::NO_REQUESTS;
-use header::zero::NO_STAMP;
-use header::zero::NO_TIMES;
-
-pub struct OptionalStampRead {
-    pub step: Step,
-    pub stamp: OptionalStamp,
-}
-
-pub struct OptionalDtgRead {
-    pub step: Step,
-    pub dtg: OptionalDtg,
-}
-
-pub struct RequestsRead {
-    pub step: Step,
-    pub requests: Requests,
-}
-
-pub struct OptionalRequestsRead {
-    pub step: Step,
-    pub requests: OptionalRequests,
-}
-
-pub struct TimesRead {
-    pub step: Step,
-    pub times: Times,
-}
+use read_leaves::numbers::read_mark;
+use record_octets::in_optional_dtg;
+use record_octets::in_optional_requests;
+use record_octets::in_optional_stamp;
+use record_octets::in_requests;
+use record_octets::in_times;
 
 // G5.
-pub fn read_optional_stamp(s: &[u8], at: BitPlace) -> OptionalStampRead
-    requires { ⌜ length (now s) ≤ datagramLimit ⌝ }
-    ensures { λ r. ⌜ answer (r .step) (r .stamp) ≡ optionalStamp .read (bitsOf (now (s .entry))) (at .0) ⌝ }
+pub fn read_optional_stamp(s: &[u8], at: BitPlace, x: &mut [u8]) -> Step
+    requires { ⌜ (length (now s) ≤ datagramLimit) × (now x ≡ zeros sizeOfOptionalStamp) × (length (now x) ≡ sizeOfOptionalStamp) ⌝ }
+    ensures { λ r. ⌜ Into optionalStamp optionalStampOctets TypedOptionalStamp (bitsOf (now (s .entry))) (at .0) r (now (x .exit)) ⌝ }
 {
-    let none = OptionalStamp {
-        present: false,
-        stamp: NO_STAMP,
-    };
     let a = read_flag(s, at);
     let Flag::Got(present, at) = a else {
-        return OptionalStampRead {
-            step: a.step(),
-            stamp: none,
-        };
+        return a.step();
     };
     if present {
-        let b = read_stamp(s, at);
-        let x = b.stamp;
-        let step = b.step;
-        let Step::Next(at) = step else {
-            return OptionalStampRead {
-                step: step,
-                stamp: none,
-            };
-        };
-        return OptionalStampRead {
-            step: Step::Next(at),
-            stamp: OptionalStamp {
-                present: present,
-                stamp: x,
-            },
-        };
+        store_mark(
+            &mut x[in_optional_stamp::PRESENT..in_optional_stamp::STAMP],
+            present,
+        );
+        return read_stamp(
+            s,
+            at,
+            &mut x[in_optional_stamp::STAMP..in_optional_stamp::END],
+        );
     }
-    OptionalStampRead {
-        step: Step::Next(at),
-        stamp: none,
-    }
+    Step::Next(at)
 }
 
 // G6.
-pub fn read_optional_dtg(s: &[u8], at: BitPlace) -> OptionalDtgRead
-    requires { ⌜ length (now s) ≤ datagramLimit ⌝ }
-    ensures { λ r. ⌜ answer (r .step) (r .dtg) ≡ optionalDtg .read (bitsOf (now (s .entry))) (at .0) ⌝ }
+pub fn read_optional_dtg(s: &[u8], at: BitPlace, x: &mut [u8]) -> Step
+    requires { ⌜ (length (now s) ≤ datagramLimit) × (now x ≡ zeros sizeOfOptionalDtg) × (length (now x) ≡ sizeOfOptionalDtg) ⌝ }
+    ensures { λ r. ⌜ Into optionalDtg optionalDtgOctets TypedOptionalDtg (bitsOf (now (s .entry))) (at .0) r (now (x .exit)) ⌝ }
 {
-    let none = OptionalDtg {
-        present: false,
-        dtg: NO_DTG,
-    };
     let a = read_flag(s, at);
     let Flag::Got(present, at) = a else {
-        return OptionalDtgRead {
-            step: a.step(),
-            dtg: none,
-        };
+        return a.step();
     };
     if present {
-        let b = read_dtg(s, at);
-        let x = b.dtg;
-        let step = b.step;
-        let Step::Next(at) = step else {
-            return OptionalDtgRead {
-                step: step,
-                dtg: none,
-            };
-        };
-        return OptionalDtgRead {
-            step: Step::Next(at),
-            dtg: OptionalDtg {
-                present: present,
-                dtg: x,
-            },
-        };
+        store_mark(
+            &mut x[in_optional_dtg::PRESENT..in_optional_dtg::DTG],
+            present,
+        );
+        return read_dtg(s, at, &mut x[in_optional_dtg::DTG..in_optional_dtg::END]);
     }
-    OptionalDtgRead {
-        step: Step::Next(at),
-        dtg: none,
-    }
+    Step::Next(at)
 }
 
 // G7.
-pub fn read_requests(s: &[u8], at: BitPlace) -> RequestsRead
-    requires { ⌜ length (now s) ≤ datagramLimit ⌝ }
-    ensures { λ r. ⌜ answer (r .step) (r .requests) ≡ requests .read (bitsOf (now (s .entry))) (at .0) ⌝ }
+pub fn read_requests(s: &[u8], at: BitPlace, x: &mut [u8]) -> Step
+    requires { ⌜ (length (now s) ≤ datagramLimit) × (now x ≡ zeros sizeOfRequests) × (length (now x) ≡ sizeOfRequests) ⌝ }
+    ensures { λ r. ⌜ Into requests requestsOctets (λ v. Unit {0}) (bitsOf (now (s .entry))) (at .0) r (now (x .exit)) ⌝ }
 {
-    let a = read_flag(s, at);
-    let Flag::Got(machine, at) = a else {
-        return RequestsRead {
-            step: a.step(),
-            requests: NO_REQUESTS,
-        };
+    let step = read_mark(
+        s,
+        at,
+        &mut x[in_requests::MACHINE..in_requests::ACKNOWLEDGE],
+    );
+    let Step::Next(at) = step else {
+        return step;
     };
-    let a = read_flag(s, at);
-    let Flag::Got(acknowledge, at) = a else {
-        return RequestsRead {
-            step: a.step(),
-            requests: NO_REQUESTS,
-        };
+    let step = read_mark(s, at, &mut x[in_requests::ACKNOWLEDGE..in_requests::REPLY]);
+    let Step::Next(at) = step else {
+        return step;
     };
-    let a = read_flag(s, at);
-    let Flag::Got(reply, at) = a else {
-        return RequestsRead {
-            step: a.step(),
-            requests: NO_REQUESTS,
-        };
-    };
-    RequestsRead {
-        step: Step::Next(at),
-        requests: Requests {
-            machine: machine,
-            acknowledge: acknowledge,
-            reply: reply,
-        },
-    }
+    read_mark(s, at, &mut x[in_requests::REPLY..in_requests::END])
 }
 
-pub fn read_optional_requests(s: &[u8], at: BitPlace) -> OptionalRequestsRead
-    requires { ⌜ length (now s) ≤ datagramLimit ⌝ }
-    ensures { λ r. ⌜ answer (r .step) (r .requests) ≡ optionalRequests .read (bitsOf (now (s .entry))) (at .0) ⌝ }
+pub fn read_optional_requests(s: &[u8], at: BitPlace, x: &mut [u8]) -> Step
+    requires { ⌜ (length (now s) ≤ datagramLimit) × (now x ≡ zeros sizeOfOptionalRequests) × (length (now x) ≡ sizeOfOptionalRequests) ⌝ }
+    ensures { λ r. ⌜ Into optionalRequests optionalRequestsOctets (λ v. Unit {0}) (bitsOf (now (s .entry))) (at .0) r (now (x .exit)) ⌝ }
 {
-    let none = OptionalRequests {
-        present: false,
-        requests: NO_REQUESTS,
-    };
     let a = read_flag(s, at);
     let Flag::Got(present, at) = a else {
-        return OptionalRequestsRead {
-            step: a.step(),
-            requests: none,
-        };
+        return a.step();
     };
     if present {
-        let b = read_requests(s, at);
-        let x = b.requests;
-        let step = b.step;
-        let Step::Next(at) = step else {
-            return OptionalRequestsRead {
-                step: step,
-                requests: none,
-            };
-        };
-        return OptionalRequestsRead {
-            step: Step::Next(at),
-            requests: OptionalRequests {
-                present: present,
-                requests: x,
-            },
-        };
+        store_flag(
+            &mut x[in_optional_requests::PRESENT..in_optional_requests::REQUESTS],
+            present,
+        );
+        return read_requests(
+            s,
+            at,
+            &mut x[in_optional_requests::REQUESTS..in_optional_requests::END],
+        );
     }
-    OptionalRequestsRead {
-        step: Step::Next(at),
-        requests: none,
-    }
+    Step::Next(at)
 }
 
-// A refusal on the way; what was read is not looked at.
-fn stopped_times(step: Step) -> TimesRead
-    ensures { λ r. ⌜ r .step ≡ step ⌝ }
+pub fn read_times(s: &[u8], at: BitPlace, x: &mut [u8]) -> Step
+    requires { ⌜ (length (now s) ≤ datagramLimit) × (now x ≡ zeros sizeOfTimes) × (length (now x) ≡ sizeOfTimes) ⌝ }
+    ensures { λ r. ⌜ Into times timesOctets TypedTimes (bitsOf (now (s .entry))) (at .0) r (now (x .exit)) ⌝ }
 {
-    TimesRead {
-        step: step,
-        times: NO_TIMES,
-    }
-}
-
-pub fn read_times(s: &[u8], at: BitPlace) -> TimesRead
-    requires { ⌜ length (now s) ≤ datagramLimit ⌝ }
-    ensures { λ r. ⌜ answer (r .step) (r .times) ≡ times .read (bitsOf (now (s .entry))) (at .0) ⌝ }
-{
-    let a = read_optional_stamp(s, at);
-    let origin = a.stamp;
-    let step = a.step;
+    let step = read_optional_stamp(s, at, &mut x[in_times::ORIGIN..in_times::PERISH]);
     let Step::Next(at) = step else {
-        return stopped_times(step);
+        return step;
     };
-    let a = read_optional_dtg(s, at);
-    let perish = a.dtg;
-    let step = a.step;
+    let step = read_optional_dtg(s, at, &mut x[in_times::PERISH..in_times::REQUESTS]);
     let Step::Next(at) = step else {
-        return stopped_times(step);
+        return step;
     };
-    let a = read_optional_requests(s, at);
-    let requests = a.requests;
-    let step = a.step;
-    let Step::Next(at) = step else {
-        return stopped_times(step);
-    };
-    TimesRead {
-        step: Step::Next(at),
-        times: Times {
-            origin: origin,
-            perish: perish,
-            requests: requests,
-        },
-    }
+    read_optional_requests(s, at, &mut x[in_times::REQUESTS..in_times::END])
 }

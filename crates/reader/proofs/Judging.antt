@@ -1,7 +1,7 @@
 -- The rules and the sizes, in their order: the verdict on them, and what the reading makes of it. Assumes nothing.
 use Prim.Native.Nat.{ℕ}
 use mathlib.Core.Path.{_≡_, refl, ap, sym, _∙_}
-use mathlib.Core.Bool.{Bool, true, false}
+use mathlib.Core.Bool.{Bool, true, false, _&&_}
 use lib.Dec.{eqb}
 use native.Mathlib.Omega.{arith}
 use denote.Enum.Declared.{tagOf}
@@ -10,30 +10,31 @@ use Rattle.codec.specs.Refusals.{checkNo}
 use Rattle.codec.specs.declared.Check.{Check}
 use Rattle.codec.proofs.Check as check
 use Rattle.codec.proofs.Told.{fault-positive}
-use Rattle.header.specs.Rules.{_⇒_, rulesKept}
+use Rattle.header.specs.Rules.{_⇒_, all, rules, usedBlocks, settingOf, rulesKept}
+use Rattle.rules.proofs.Over.{all-swap}
 use Rattle.header.specs.Sizes.{sizesRight}
 use Rattle.header.specs.declared.Header.{Header}
+use Rattle.header.specs.declared.Wire.{Wire}
 use Rattle.optional.specs.declared.OptionalNumber.{OptionalNumber}
-use Rattle.reader.specs.Reading.{Reading, wireOf, recordOf, sizesHold, settled, judgedNo, failedBy, accepted, rejected}
+use Rattle.reader.specs.Reading.{Reading, recordOf, sizesHold, settled, judgedNo, failedBy, accepted, rejected}
 
-module _ (h : Header) (size : OptionalNumber) (octets behind : ℕ) where
-  pub judged-rule : rulesKept h ≡ false → 8 ≡ judgedNo h size octets behind
+module _ (h : Header) (size : OptionalNumber) (octets behind : ℕ) (kept right : Bool) (rule : kept ≡ all (λ b. all (λ r. r (settingOf h) b) rules) (usedBlocks (h .blocks))) where
+  kept-is : kept ≡ rulesKept h
+  unfolding rulesKept
+  kept-is = rule ∙ sym (all-swap rules (settingOf h) (usedBlocks (h .blocks)))
+
+  pub judged-rule : kept ≡ false → 8 ≡ judgedNo h size octets behind
   unfolding judgedNo
-  judged-rule e = rw e
+  judged-rule e = let z = sym kept-is ∙ e in rw z
 
-  module _ (kept : rulesKept h ≡ true) where
-    pub judged-size : (size .present ⇒ eqb (size .value) octets) ≡ false → 10 ≡ judgedNo h size octets behind
+  module _ (fits : right ≡ (size .present ⇒ eqb (size .value) octets) && sizesRight (h .blocks) behind) (k : kept ≡ true) where
+    pub judged-size : right ≡ false → 10 ≡ judgedNo h size octets behind
     unfolding judgedNo
-    judged-size e = rw (kept, e)
+    judged-size e = let z = sym kept-is ∙ k in let y = sym fits ∙ e in rw (z, y)
 
-    module _ (held : (size .present ⇒ eqb (size .value) octets) ≡ true) where
-      pub judged-sizes : sizesRight (h .blocks) behind ≡ false → 10 ≡ judgedNo h size octets behind
-      unfolding judgedNo
-      judged-sizes e = rw (kept, held, e)
-
-      pub judged-right : sizesRight (h .blocks) behind ≡ true → 0 ≡ judgedNo h size octets behind
-      unfolding judgedNo
-      judged-right e = rw (kept, held, e)
+    pub judged-fine : right ≡ true → 0 ≡ judgedNo h size octets behind
+    unfolding judgedNo
+    judged-fine e = let z = sym kept-is ∙ k in let y = sym fits ∙ e in rw (z, y)
 
 -- what a verdict's number tells, by the outcomes of the two tests
 fine-accepts : (a b : Bool) (v : Check) (x : Reading) → checkNo v ≡ pick a (pick b 0 10) 8 → tagOf check.the-type v ≡ 0 → pick a (pick b x (rejected 10 0)) (rejected 8 0) ≡ x
@@ -56,19 +57,11 @@ unfolding failedBy
 fine-fails Check.Fine t = refl
 fine-fails (Check.Bad f) t = absurd (omega arith)
 
--- the record that is handed back has the header size's presence
-module _ (h : Header) (size : OptionalNumber) (sized : h .sized ≡ size .present) (octets behind : ℕ) where
-  settled-by : settled (wireOf size h) octets behind ≡ pick (rulesKept h) (pick (sizesHold (wireOf size h) octets behind) (accepted h octets) (rejected 10 0)) (rejected 8 0)
-  unfolding settled
-  settled-by =
-      let same : recordOf (wireOf size h) ≡ h = rw sized refl in
-      ap (λ (x : Header). pick (rulesKept x) (pick (sizesHold (wireOf size h) octets behind) (accepted x octets) (rejected 10 0)) (rejected 8 0)) same
+module _ (w : Wire) (octets behind : ℕ) (v : Check) (e : checkNo v ≡ judgedNo (recordOf w) (w .size) octets behind) where
+  pub settled-right : tagOf check.the-type v ≡ 0 → settled w octets behind ≡ accepted (recordOf w) octets
+  unfolding settled judgedNo
+  settled-right t = fine-accepts (rulesKept (recordOf w)) (sizesHold w octets behind) v (accepted (recordOf w) octets) e t
 
-  module _ (v : Check) (e : checkNo v ≡ judgedNo h size octets behind) where
-    pub settled-right : tagOf check.the-type v ≡ 0 → settled (wireOf size h) octets behind ≡ accepted h octets
-    unfolding judgedNo
-    settled-right t = settled-by ∙ fine-accepts (rulesKept h) (sizesHold (wireOf size h) octets behind) v (accepted h octets) e t
-
-    pub settled-failed : tagOf check.the-type v ≡ 1 → settled (wireOf size h) octets behind ≡ failedBy v
-    unfolding judgedNo
-    settled-failed t = settled-by ∙ bad-fails (rulesKept h) (sizesHold (wireOf size h) octets behind) v (accepted h octets) e t
+  pub settled-failed : tagOf check.the-type v ≡ 1 → settled w octets behind ≡ failedBy v
+  unfolding settled judgedNo
+  settled-failed t = bad-fails (rulesKept (recordOf w)) (sizesHold w octets behind) v (accepted (recordOf w) octets) e t

@@ -1,3 +1,4 @@
 mod FillBits
 mod Judging
+mod Filled
 pub mod Accepts

@@ -1,11 +1,12 @@
--- What the public reading returns, component by component: whether it is done, number and place of the refusal (0 and 0 for none), the record and the
--- header's octets. On a refusal the record is the zero record and the length 0.
+-- What the public reading returns, component by component: whether it is done, number and place of the refusal (0 and 0 for none) and the header's octets,
+-- 0 on a refusal; and what the record's octets are afterwards.
 use Prim.Native.Nat.{ℕ}
 use mathlib.Core.Bool.{Bool, true, false}
+use mathlib.Core.Path.{_≡_}
+use mathlib.Core.List.{List}
 use Rattle.codec.specs.Refusals.{faultNo}
 use Rattle.codec.specs.declared.Step.{Step}
-use Rattle.header.specs.Zero.{noHeader}
-use Rattle.header.specs.declared.Header.{Header}
+use Rattle.record_octets.specs.Record.{headerIn, headerOctets}
 use Rattle.reader.specs.Reading.{Reading, accepted, rejected}
 use Rattle.reader.specs.declared.Outcome.{Outcome}
 use Rattle.reader.specs.declared.HeaderRead.{HeaderRead}
@@ -14,7 +15,6 @@ pub record Told : Type 0 where
   pub done : Bool
   pub number : ℕ
   pub place : ℕ
-  pub header : Header
   pub octets : ℕ
 
 unfoldable pub outcomeDone : Outcome → Bool
@@ -31,12 +31,27 @@ outcomePlace (Outcome.Refused f p) = p .0
 
 -- what the call's result tells
 abbrev pub told : HeaderRead → Told
-told r = record { done = outcomeDone (r .outcome); number = outcomeNo (r .outcome); place = outcomePlace (r .outcome); header = r .header; octets = r .length .0 }
+told r = record { done = outcomeDone (r .outcome); number = outcomeNo (r .outcome); place = outcomePlace (r .outcome); octets = r .length .0 }
 
 -- what it has to tell
 unfoldable pub toTell : Reading → Told
-toTell (accepted h n) = record { done = true; number = 0; place = 0; header = h; octets = n }
-toTell (rejected f p) = record { done = false; number = f; place = p; header = noHeader; octets = 0 }
+toTell (accepted h n) = record { done = true; number = 0; place = 0; octets = n }
+toTell (rejected f p) = record { done = false; number = f; place = p; octets = 0 }
+
+-- the record's octets after the call: those of the record that was read, each of them; refused, as they were
+unfoldable pub recordAfter : Reading → List ℕ → List ℕ
+recordAfter (accepted h n) s = headerOctets h
+recordAfter (rejected f p) s = s
+
+-- and they hold that record: its numbers are numbers of 32 bits, and its arrays have their cells
+unfoldable pub Holds : Reading → List ℕ → Type 0
+Holds (accepted h n) s = headerIn s ≡ h
+Holds (rejected f p) s = Unit {0}
+
+-- octets that a reading has filled, from 0 on
+unfoldable pub Fills : Reading → List ℕ → Type 0
+Fills (accepted h n) s = (s ≡ headerOctets h) × (headerIn s ≡ h)
+Fills (rejected f p) s = Unit {0}
 
 -- the refusal that a step of reading ended with
 unfoldable pub stoppedBy : Step → Reading

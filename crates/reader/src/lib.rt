@@ -1,17 +1,24 @@
-// Reading a datagram into the header record, and handing back the user data behind the header.
+// Reading a datagram into a record, which is lent octets, and handing back the user data behind the header.
 ghost use mathlib.Core.Path.{_≡_};
 ghost use lib.Dec.{eqb};
+ghost use lib.ListN.{length};
 ghost use Rattle.codec.specs.Refusals.{checkNo, faultNo};
 ghost use Rattle.header.specs.Rules.{_⇒_};
+ghost use Rattle.cells.specs.Cells.{zeros};
+ghost use Rattle.record_octets.specs.Record.{sizeOfHeader, headerIn};
 ghost use Rattle.reader.specs.Reading.{reading, rejected, judgedNo, failedBy, userData};
-ghost use Rattle.reader.specs.Told.{told, toTell, stoppedBy};
+ghost use Rattle.reader.specs.Told.{told, toTell, recordAfter, Holds, Fills, stoppedBy};
 use bits::BitPlace;
 use bits::OctetSize;
 use codec::Check;
 use codec::Fault;
 use codec::Step;
-use header::Header;
+use leaves::setting::setting_of;
 use optional::OptionalNumber;
+use record_octets::RECORD;
+use record_octets::in_header;
+use rules::rule::both;
+use rules::seen::see_blocks;
 
 pub mod fill;
 pub mod wire;
@@ -22,11 +29,9 @@ pub enum Outcome {
     Refused(Fault, BitPlace),
 }
 
-// A reading's outcome, the record and the header's length. An enum cannot hold the record, which has
-// arrays, so the record stands beside the outcome; refused, it is the zero record, and the length 0.
+// A reading's outcome and the header's length; refused, the length is 0.
 pub struct HeaderRead {
     pub outcome: Outcome,
-    pub header: Header,
     pub length: OctetSize,
 }
 
@@ -36,7 +41,6 @@ fn refusal(fault: Fault, place: BitPlace) -> HeaderRead
 {
     HeaderRead {
         outcome: Outcome::Refused(fault, place),
-        header: header::zero::no_header(),
         length: OctetSize(0),
     }
 }
@@ -72,33 +76,34 @@ fn size_holds(size: OptionalNumber, length: OctetSize) -> bool
     true
 }
 
-// Behind the fill bits: the rules, then the sizes. It answers with a verdict, so that the record stays
-// where it is.
-fn judge(h: Header, size: OptionalNumber, length: OctetSize, behind: OctetSize) -> Check
-    ensures { λ r. ⌜ checkNo r ≡ judgedNo h size (length .0) (behind .0) ⌝ }
+// Behind the fill bits: the rules, then the sizes.
+fn judge(h: &[u8], size: OptionalNumber, octets: OctetSize, behind: OctetSize) -> Check
+    requires { ⌜ length (now h) ≡ sizeOfHeader ⌝ }
+    ensures { λ r. ⌜ checkNo r ≡ judgedNo (headerIn (now (h .entry))) size (octets .0) (behind .0) ⌝ }
 {
-    if !rules::rule::rules_kept(h) {
+    let x = setting_of(h);
+    let seen = see_blocks(x, &h[in_header::BLOCKS..in_header::END], behind);
+    let kept = seen.kept;
+    if !kept {
         return Check::Bad(Fault::Rule);
     }
-    if !size_holds(size, length) {
-        return Check::Bad(Fault::Size);
-    }
-    let blocks = h.blocks;
-    if !rules::sizes::sizes_right(blocks, behind) {
+    let right = both(size_holds(size, octets), seen.right);
+    if !right {
         return Check::Bad(Fault::Size);
     }
     Check::Fine
 }
 
-// Reads a datagram: the length first (12), then the fields from the left, the fill bits (9), the
-// rules (8) and the sizes (10).
-pub fn read(datagram: &[u8]) -> HeaderRead
-    ensures { λ r. ⌜ told r ≡ toTell (reading (now (datagram .entry))) ⌝ }
+// Reads a datagram into the octets of a record, which are all 0: the length first (12), then the fields from the left, the
+// fill bits (9), the rules (8) and the sizes (10).
+fn read_into(datagram: &[u8], h: &mut [u8]) -> HeaderRead
+    requires { ⌜ (now h ≡ zeros sizeOfHeader) × (length (now h) ≡ sizeOfHeader) ⌝ }
+    ensures { λ r. ⌜ (told r ≡ toTell (reading (now (datagram .entry)))) × Fills (reading (now (datagram .entry))) (now (h .exit)) ⌝ }
 {
     if 65507 < datagram.len() {
         return refusal(Fault::TooLong, BitPlace(0));
     }
-    let a = wire::read_wire(datagram, BitPlace(0));
+    let a = wire::read_fields(datagram, BitPlace(0), h);
     let step = a.step;
     let Step::Next(end) = step else {
         return stopped(step);
@@ -109,15 +114,35 @@ pub fn read(datagram: &[u8]) -> HeaderRead
     };
     let length = bits::whole_octets(end);
     let behind = OctetSize(datagram.len() - length.0);
-    let header = a.header;
     let size = a.size;
-    let verdict = judge(header, size, length, behind);
+    let verdict = judge(h, size, length, behind);
     let Check::Fine = verdict else {
         return failed(verdict);
     };
     HeaderRead {
         outcome: Outcome::Done,
-        header: header,
+        length: length,
+    }
+}
+
+// Reads a datagram. Done, every octet of the record is determined: those of the record that was read, with each unused cell and
+// each octet between the cells 0. Refused, the record is as it was: it is filled only once all is accepted.
+pub fn read(datagram: &[u8], header: &mut [u8; RECORD]) -> HeaderRead
+    ensures { λ r. ⌜ (told r ≡ toTell (reading (now (datagram .entry)))) × (now (header .exit) ≡ recordAfter (reading (now (datagram .entry))) (now (header .entry))) × Holds (reading (now (datagram .entry))) (now (header .exit)) ⌝ }
+{
+    let mut octets = [0u8; RECORD];
+    let a = read_into(datagram, &mut octets);
+    let outcome = a.outcome;
+    let length = a.length;
+    let Outcome::Done = outcome else {
+        return HeaderRead {
+            outcome: outcome,
+            length: length,
+        };
+    };
+    *header = octets;
+    HeaderRead {
+        outcome: outcome,
         length: length,
     }
 }
@@ -127,7 +152,8 @@ pub fn read(datagram: &[u8]) -> HeaderRead
 pub fn user_data(datagram: &[u8]) -> &[u8]
     ensures { λ r. ⌜ now r ≡ userData (now (datagram .entry)) ⌝ }
 {
-    let r = read(datagram);
+    let mut octets = [0u8; RECORD];
+    let r = read_into(datagram, &mut octets);
     let outcome = r.outcome;
     let Outcome::Done = outcome else {
         let end = datagram.len();

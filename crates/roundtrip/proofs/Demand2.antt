@@ -4,7 +4,7 @@ use Rattle.roundtrip.proofs.ReadBack.{written-as, read-as}
 use Rattle.roundtrip.proofs.OnlyHeader.{only-header}
 use Rattle.roundtrip.proofs.WrittenAgain.{record-valid, written-again}
 use Rattle.roundtrip.proofs.UnusedZero.{unused-zero}
-use Rattle.roundtrip.proofs.Calls.{read-zero, came-back, went-out}
+use Rattle.roundtrip.proofs.Calls.{read-clean, read-refused, came-back, went-out}
 
 pub demand-2 : Demand2
 demand-2 =
@@ -15,7 +15,8 @@ demand-2 =
       valid = λ s h n o e. record-valid s o n h e;
       unusedZero = unused-zero;
       again = λ s h n o e out room. written-again s o n h e out room;
-      readZero = read-zero;
-      writeRead = λ h count v out room w out′ wrote d many r call. came-back h count v out room w out′ wrote d many r call;
-      readWrite = λ s o r call fine out room w out′ wrote. went-out s o r call fine out room w out′ wrote;
+      readClean = λ s before r after call fine. read-clean s before r after call fine;
+      readRefused = read-refused;
+      writeRead = λ octets count v out room w out′ wrote d many before r after call. came-back octets count v out room w out′ wrote d many before r after call;
+      readWrite = λ s o before r after call fine out room w out′ wrote. went-out s o before r after call fine out room w out′ wrote;
     }

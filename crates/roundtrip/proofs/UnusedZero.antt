@@ -1,13 +1,10 @@
--- The reader sets unused cells to 0: the record of any accepted datagram is its own normal form, and so is the zero record. Assumes nothing.
+-- The reader sets unused cells to 0: the record of any accepted datagram is its own normal form. Assumes nothing.
 use Prim.Native.Nat.{ℕ}
-use mathlib.Core.Path.{_≡_, refl, ap}
+use mathlib.Core.Path.{_≡_, ap}
 use mathlib.Core.List.{List}
 use Rattle.bits.specs.Bits.{bitsOf}
-use Rattle.codec.specs.Codec.{number, flag, nothing, _thenBy_, present, viewed, tested}
-use Rattle.codec.specs.Lists.{recurs, listed, cells}
-use Rattle.optional.specs.Optionals.{optionalNumber}
-use Rattle.header.specs.Zero.{noNumber, noFront, noBlocks, noHeader}
-use Rattle.header.specs.Table.{originator, recipients, information, front, blocks, wire}
+use Rattle.codec.specs.Codec.{_thenBy_, viewed}
+use Rattle.header.specs.Table.{wire}
 use Rattle.header.specs.Same.{headerNorm}
 use Rattle.header.specs.declared.Header.{Header}
 use Rattle.header.specs.declared.Wire.{Wire}
@@ -23,8 +20,3 @@ parts-clean s n a =
 
 pub unused-zero : (s : List ℕ) (h : Header) (n : ℕ) → reading s ≡ accepted h n → headerNorm h ≡ h
 unused-zero s h n e = let k : Known s h n = accepted-parts s h n e in rw (k .1) (parts-clean s n (k .0))
-
--- the record beside a refusal
-pub zero-record : headerNorm noHeader ≡ noHeader
-unfolding headerNorm noHeader noFront noBlocks noNumber front originator recipients information blocks viewed _thenBy_ cells listed present nothing flag tested recurs number optionalNumber
-zero-record = refl

@@ -2,36 +2,46 @@
 -- to do (`reading`, `writing`), then of the calls themselves, by their contracts alone. The proof is proofs/Demand2.antt.
 use Prim.Native.Nat.{ℕ, _≤_}
 use mathlib.Core.Path.{_≡_}
-use mathlib.Core.Bool.{true}
+use mathlib.Core.Bool.{true, false}
 use mathlib.Core.List.{List, _++_}
 use lib.ListN.{length, take, drop}
 use Rattle.bits.specs.Bits.{AllOctets}
 use Rattle.header.specs.Same.{Same, headerNorm}
 use Rattle.header.specs.declared.Header.{Header}
+use Rattle.record_octets.specs.Record.{headerIn, headerOctets}
 use Rattle.reader.specs.Reading.{reading, accepted, userData}
 use Rattle.reader.specs.Told as read
-use Rattle.reader.specs.Told.{toTell, outcomeDone}
+use Rattle.reader.specs.Told.{toTell, recordAfter, Holds, outcomeDone}
 use Rattle.reader.specs.declared.HeaderRead.{HeaderRead}
 use Rattle.writer.specs.Writing.{headerSize, headerOf, ValidRecord, done, writing, outputAfter, told}
 use Rattle.writer.specs.declared.Written.{Written}
 use Rattle.roundtrip.specs.Inverse.{ReadAs, WrittenAs}
 
--- ---- the calls, as their contracts have them
+-- ---- the calls, as their contracts have them. A record is lent octets: any octets are some record (`headerIn`), and `headerOctets` are a record's own octets
 
--- `read` was given s and gave r
-pub record Reads (s : List ℕ) (r : HeaderRead) : Type 0 where
+-- `read` was given s and a record with the octets `before`; it gave r and left `after`
+pub record Reads (s before : List ℕ) (r : HeaderRead) (after : List ℕ) : Type 0 where
   pub tells : read.told r ≡ toTell (reading s)
+  pub leaves : after ≡ recordAfter (reading s) before
+  pub holds : Holds (reading s) after
 
--- `write` was given the record h, so many octets of user data and the output `out`; it gave w and left out′
-pub record Writes (h : Header) (count : ℕ) (out : List ℕ) (w : Written) (out′ : List ℕ) : Type 0 where
-  pub tells : told w ≡ writing h count (length out)
-  pub leaves : out′ ≡ outputAfter h (writing h count (length out)) out
+-- `write` was given a record with these octets, so many octets of user data and the output `out`; it gave w and left out′
+pub record Writes (octets : List ℕ) (count : ℕ) (out : List ℕ) (w : Written) (out′ : List ℕ) : Type 0 where
+  pub tells : told w ≡ writing (headerIn octets) count (length out)
+  pub leaves : out′ ≡ outputAfter (headerIn octets) (writing (headerIn octets) count (length out)) out
 
--- `write` and then `read` were done: what came back is the same record, and the header is as long as `write` said
-pub record CameBack (h : Header) (w : Written) (r : HeaderRead) : Type 0 where
+-- `read` was done: the octets that it left are those of the record that they hold, whose unused cells are 0
+pub record Clean (after : List ℕ) : Type 0 where
+  pub whole : after ≡ headerOctets (headerIn after)
+  pub unusedZero : headerNorm (headerIn after) ≡ headerIn after
+
+-- `write` and then `read` were done: the header is as long as `write` said, what came back is the same record, and its octets are those of that record with
+-- 0 in every unused cell and between the cells, whatever was there in the octets that were written
+pub record CameBack (octets : List ℕ) (w : Written) (r : HeaderRead) (after : List ℕ) : Type 0 where
   pub readDone : outcomeDone (r .outcome) ≡ true
   pub sameLength : told w ≡ done (r .length .0)
-  pub sameRecord : Same h (r .header)
+  pub sameRecord : Same (headerIn octets) (headerIn after)
+  pub sameOctets : after ≡ headerOctets (headerNorm (headerIn octets))
 
 -- `read` was done and then `write` too: the octets that were read as the header now begin the output, whose others are as they were
 pub record WentOut (s : List ℕ) (r : HeaderRead) (out : List ℕ) (w : Written) (out′ : List ℕ) : Type 0 where
@@ -51,11 +61,12 @@ pub record Demand2 : Type 0 where
   pub valid : (s : List ℕ) (h : Header) (n : ℕ) → AllOctets s → reading s ≡ accepted h n → ValidRecord h (length (userData s))
   pub unusedZero : (s : List ℕ) (h : Header) (n : ℕ) → reading s ≡ accepted h n → headerNorm h ≡ h
   pub again : (s : List ℕ) (h : Header) (n : ℕ) → AllOctets s → reading s ≡ accepted h n → (out : List ℕ) → n ≤ length out → WrittenAs h (length (userData s)) (take n s) out
-  -- the calls: the record that `read` hands out, of any octets at all, has 0 in its unused cells
-  pub readZero : (s : List ℕ) (r : HeaderRead) → Reads s r → headerNorm (r .header) ≡ r .header
-  -- what `write` wrote, with any user data of that count behind it, `read` hands back
-  pub writeRead : (h : Header) (count : ℕ) → ValidRecord h count → (out : List ℕ) → headerSize h ≤ length out → (w : Written) (out′ : List ℕ) → Writes h count out w out′ →
-      (d : List ℕ) → length d ≡ count → (r : HeaderRead) → Reads (take (headerSize h) out′ ++ d) r → CameBack h w r
+  -- the calls: a record that `read` has filled, of any octets at all and whatever was in it, is clean; one that it has refused to fill is as it was
+  pub readClean : (s before : List ℕ) (r : HeaderRead) (after : List ℕ) → Reads s before r after → outcomeDone (r .outcome) ≡ true → Clean after
+  pub readRefused : (s before : List ℕ) (r : HeaderRead) (after : List ℕ) → Reads s before r after → outcomeDone (r .outcome) ≡ false → after ≡ before
+  -- what `write` wrote of any octets that are a valid record, with any user data of that count behind it, `read` hands back
+  pub writeRead : (octets : List ℕ) (count : ℕ) → ValidRecord (headerIn octets) count → (out : List ℕ) → headerSize (headerIn octets) ≤ length out → (w : Written) (out′ : List ℕ) → Writes octets count out w out′ →
+      (d : List ℕ) → length d ≡ count → (before : List ℕ) (r : HeaderRead) (after : List ℕ) → Reads (take (headerSize (headerIn octets)) out′ ++ d) before r after → CameBack octets w r after
   -- and what `read` accepted, `write` writes again
-  pub readWrite : (s : List ℕ) → AllOctets s → (r : HeaderRead) → Reads s r → outcomeDone (r .outcome) ≡ true → (out : List ℕ) → r .length .0 ≤ length out →
-      (w : Written) (out′ : List ℕ) → Writes (r .header) (length (userData s)) out w out′ → WentOut s r out w out′
+  pub readWrite : (s : List ℕ) → AllOctets s → (before : List ℕ) (r : HeaderRead) (after : List ℕ) → Reads s before r after → outcomeDone (r .outcome) ≡ true → (out : List ℕ) → r .length .0 ≤ length out →
+      (w : Written) (out′ : List ℕ) → Writes after (length (userData s)) out w out′ → WentOut s r out w out′

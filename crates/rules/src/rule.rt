@@ -1,82 +1,95 @@
-// The rules: one function each, and all of them over all blocks.
+// The rules: one function each, and all of them of a block.
 ghost use mathlib.Core.Path.{_≡_};
 ghost use mathlib.Core.Bool.{_&&_};
-ghost use Prim.Native.Nat.{min};
-ghost use Rattle.header.specs.Rules.{ruleA, ruleB, ruleC, ruleD, ruleE, ruleF, ruleG, ruleH, ruleI, rules, all, settingOf, usedBlocks, rulesKept};
-use header::Block;
-use header::Blocks;
-use header::Header;
-use header::OptionalRequests;
+ghost use lib.ListN.{length};
+ghost use Rattle.header.specs.Rules.{ruleA, ruleB, ruleC, ruleD, ruleE, ruleF, ruleG, ruleH, ruleI, rules, all};
+ghost use Rattle.record_octets.specs.Record.{sizeOfBlock, blockIn};
 use header::Setting;
+use leaves::block::asks_acknowledge;
+use leaves::block::asks_machine;
+use leaves::block::asks_reply;
+use leaves::block::compliance_code;
+use leaves::block::has_cantco;
+use leaves::block::has_cantpro;
+use leaves::block::has_identity;
+use leaves::block::has_origin;
+use leaves::block::has_perish;
+use leaves::block::has_requests;
+use leaves::block::has_response;
+use leaves::block::message_size;
+use leaves::block::umf;
 
 // Rule (a): without G1 no G7.
-fn rule_a(x: Setting, b: Block) -> bool
-    ensures { λ r. ⌜ r ≡ ruleA x b ⌝ }
+fn rule_a(x: Setting, b: &[u8]) -> bool
+    requires { ⌜ length (now b) ≡ sizeOfBlock ⌝ }
+    ensures { λ r. ⌜ r ≡ ruleA x (blockIn (now (b .entry))) ⌝ }
 {
     let originator = x.originator;
     if originator {
         return true;
     }
-    !b.times.requests.present
+    !has_requests(b)
 }
 
 // Rule (b): with G8 neither G6 nor G7.
-fn rule_b(x: Setting, b: Block) -> bool
-    ensures { λ r. ⌜ r ≡ ruleB x b ⌝ }
+fn rule_b(x: Setting, b: &[u8]) -> bool
+    requires { ⌜ length (now b) ≡ sizeOfBlock ⌝ }
+    ensures { λ r. ⌜ r ≡ ruleB x (blockIn (now (b .entry))) ⌝ }
 {
-    let answers = b.response.present;
-    if answers {
-        let perish = b.times.perish.present;
-        if perish {
+    if has_response(b) {
+        if has_perish(b) {
             return false;
         }
-        return !b.times.requests.present;
+        return !has_requests(b);
     }
     true
 }
 
 // Rule (c): no G4 in UMF 1.
-fn rule_c(x: Setting, b: Block) -> bool
-    ensures { λ r. ⌜ r ≡ ruleC x b ⌝ }
+fn rule_c(x: Setting, b: &[u8]) -> bool
+    requires { ⌜ length (now b) ≡ sizeOfBlock ⌝ }
+    ensures { λ r. ⌜ r ≡ ruleC x (blockIn (now (b .entry))) ⌝ }
 {
-    let umf = b.format.umf;
-    if umf == 1 {
-        return !b.format.identity.present;
+    if umf(b) == 1 {
+        return !has_identity(b);
     }
     true
 }
 
 // Rule (d): nor in UMF 4.
-fn rule_d(x: Setting, b: Block) -> bool
-    ensures { λ r. ⌜ r ≡ ruleD x b ⌝ }
+fn rule_d(x: Setting, b: &[u8]) -> bool
+    requires { ⌜ length (now b) ≡ sizeOfBlock ⌝ }
+    ensures { λ r. ⌜ r ≡ ruleD x (blockIn (now (b .entry))) ⌝ }
 {
-    let umf = b.format.umf;
-    if umf == 4 {
-        return !b.format.identity.present;
+    if umf(b) == 4 {
+        return !has_identity(b);
     }
     true
 }
 
 // Rule (e): no G8 in a compressed message.
-fn rule_e(x: Setting, b: Block) -> bool
-    ensures { λ r. ⌜ r ≡ ruleE x b ⌝ }
+fn rule_e(x: Setting, b: &[u8]) -> bool
+    requires { ⌜ length (now b) ≡ sizeOfBlock ⌝ }
+    ensures { λ r. ⌜ r ≡ ruleE x (blockIn (now (b .entry))) ⌝ }
 {
     let compression = x.compression;
     if compression {
-        return !b.response.present;
+        return !has_response(b);
     }
     true
 }
 
 // Rule (f): of several blocks each has its size, and the header has its own.
-fn rule_f(x: Setting, b: Block) -> bool
-    ensures { λ r. ⌜ r ≡ ruleF x b ⌝ }
+fn rule_f(x: Setting, b: &[u8]) -> bool
+    requires { ⌜ length (now b) ≡ sizeOfBlock ⌝ }
+    ensures { λ r. ⌜ r ≡ ruleF x (blockIn (now (b .entry))) ⌝ }
 {
     let several = x.several;
     if several {
         let sized = x.sized;
         if sized {
-            return b.handling.size.present;
+            let size = message_size(b);
+            return size.present;
         }
         return false;
     }
@@ -84,53 +97,47 @@ fn rule_f(x: Setting, b: Block) -> bool
 }
 
 // Rule (g): a CANTCO reason with R/C 6 alone.
-fn rule_g(x: Setting, b: Block) -> bool
-    ensures { λ r. ⌜ r ≡ ruleG x b ⌝ }
+fn rule_g(x: Setting, b: &[u8]) -> bool
+    requires { ⌜ length (now b) ≡ sizeOfBlock ⌝ }
+    ensures { λ r. ⌜ r ≡ ruleG x (blockIn (now (b .entry))) ⌝ }
 {
-    let answers = b.response.present;
-    if answers {
-        let code = b.response.response.compliance.code;
-        if code == 6 {
+    if has_response(b) {
+        if compliance_code(b) == 6 {
             return true;
         }
-        return !b.response.response.compliance.cantco.present;
+        return !has_cantco(b);
     }
     true
 }
 
 // Rule (h): a CANTPRO reason with R/C 2 alone.
-fn rule_h(x: Setting, b: Block) -> bool
-    ensures { λ r. ⌜ r ≡ ruleH x b ⌝ }
+fn rule_h(x: Setting, b: &[u8]) -> bool
+    requires { ⌜ length (now b) ≡ sizeOfBlock ⌝ }
+    ensures { λ r. ⌜ r ≡ ruleH x (blockIn (now (b .entry))) ⌝ }
 {
-    let answers = b.response.present;
-    if answers {
-        let code = b.response.response.compliance.code;
-        if code == 2 {
+    if has_response(b) {
+        if compliance_code(b) == 2 {
             return true;
         }
-        return !b.response.response.compliance.cantpro.present;
+        return !has_cantpro(b);
     }
     true
 }
 
 // Rule (i): what G7 asks needs G5.
-fn rule_i(x: Setting, b: Block) -> bool
-    ensures { λ r. ⌜ r ≡ ruleI x b ⌝ }
+fn rule_i(x: Setting, b: &[u8]) -> bool
+    requires { ⌜ length (now b) ≡ sizeOfBlock ⌝ }
+    ensures { λ r. ⌜ r ≡ ruleI x (blockIn (now (b .entry))) ⌝ }
 {
-    let requests = b.times.requests;
-    let present = requests.present;
-    if present {
-        let machine = requests.requests.machine;
-        if machine {
-            return b.times.origin.present;
+    if has_requests(b) {
+        if asks_machine(b) {
+            return has_origin(b);
         }
-        let acknowledge = requests.requests.acknowledge;
-        if acknowledge {
-            return b.times.origin.present;
+        if asks_acknowledge(b) {
+            return has_origin(b);
         }
-        let reply = requests.requests.reply;
-        if reply {
-            return b.times.origin.present;
+        if asks_reply(b) {
+            return has_origin(b);
         }
     }
     true
@@ -146,8 +153,9 @@ pub fn both(a: bool, b: bool) -> bool
 }
 
 // Every rule is kept by a block.
-pub fn keeps(x: Setting, b: Block) -> bool
-    ensures { λ r. ⌜ r ≡ all (λ rule. rule x b) rules ⌝ }
+pub fn keeps(x: Setting, b: &[u8]) -> bool
+    requires { ⌜ length (now b) ≡ sizeOfBlock ⌝ }
+    ensures { λ r. ⌜ r ≡ all (λ rule. rule x (blockIn (now (b .entry)))) rules ⌝ }
 {
     let i = both(rule_i(x, b), true);
     let h = both(rule_h(x, b), i);
@@ -158,51 +166,4 @@ pub fn keeps(x: Setting, b: Block) -> bool
     let c = both(rule_c(x, b), d);
     let rest = both(rule_b(x, b), c);
     both(rule_a(x, b), rest)
-}
-
-pub fn setting_of(h: Header) -> Setting
-    ensures { λ r. ⌜ r ≡ settingOf h ⌝ }
-{
-    let count = h.blocks.count;
-    Setting {
-        originator: h.front.originator.present,
-        compression: h.front.compression.present,
-        sized: h.sized,
-        several: 2 <= count,
-    }
-}
-
-// How many cells are used.
-pub fn used_count(count: u32) -> usize
-    ensures { λ r. ⌜ r ≡ min count 16 ⌝ }
-{
-    if 16 < count {
-        return 16;
-    }
-    count as usize
-}
-
-// Every rule is kept by every block.
-fn all_keep(x: Setting, g: Blocks) -> bool
-    ensures { λ r. ⌜ r ≡ all (λ b. all (λ rule. rule x b) rules) (usedBlocks g) ⌝ }
-{
-    let list = g.list;
-    let count = used_count(g.count);
-    let mut i: usize = 0;
-    while i < count {
-        let b = list[i];
-        if !keeps(x, b) {
-            return false;
-        }
-        i += 1;
-    }
-    true
-}
-
-pub fn rules_kept(h: Header) -> bool
-    ensures { λ r. ⌜ r ≡ rulesKept h ⌝ }
-{
-    let x = setting_of(h);
-    let g = h.blocks;
-    all_keep(x, g)
 }

@@ -24,29 +24,8 @@ use Rattle.header.specs.declared.Block.{Block}
 use Rattle.header.specs.declared.Blocks.{Blocks}
 use Rattle.header.specs.declared.Setting.{Setting}
 use Rattle.header.proofs.Bounds.{block-bounded}
-use Rattle.rules.proofs.Over.{Passed, passed-none, passed-more, passed-not, passed-all}
-use Rattle.rules.proofs.Shares.{Taken, aloneOf, shareOf, right, taken-none, taken-more, taken-short, taken-bad, taken-all, sizes-are}
-
--- a test of everything that goes on past its failure: while it holds, P; once it fails, the whole fails
-pub record Still (P : Type 0) (whole holds : Bool) : Type 0 where
-  pub held : holds ≡ true → P
-  pub lost : holds ≡ false → false ≡ whole
-
-module _ {P : Type 0} {whole : Bool} where
-  still-none : P → Still P whole true
-  still-none p = record { held = λ e. p; lost = λ e. cc }
-
-  still-more : {Q : Type 0} (a b : Bool) → Still P whole a → (P → b ≡ true → Q) → (P → b ≡ false → false ≡ whole) → Still Q whole (a && b)
-  still-more true b s f g = record { held = λ e. f (s .held refl) e; lost = λ e. g (s .held refl) e }
-  still-more false b s f g = record { held = λ e. let z : _≡_ {A = ℕ} 0 1 = cc in absurd (omega arith); lost = λ e. s .lost refl }
-
-  still-kept : (a : Bool) → Still P whole a → (P → true ≡ whole) → a ≡ whole
-  still-kept true s f = f (s .held refl)
-  still-kept false s f = s .lost refl
-
-  still-all : (a b : Bool) → Still P whole a → (P → b ≡ whole) → a && b ≡ whole
-  still-all true b s f = f (s .held refl)
-  still-all false b s f = s .lost refl
+use Rattle.rules.proofs.Shares.{aloneOf, shareOf}
+use Rattle.rules.proofs.Looks.{Looked, looked-none, looked-more, looked-all}
 
 -- a check that says nothing
 pub fine-check : (x : Check) (n : ℕ) → checkNo x ≡ n → tagOf check.the-type x ≡ 0 → n ≡ 0
@@ -76,8 +55,7 @@ first-faulty (Check.Bad k) f g e t = go f e
 -- the blocks before i are legal; what they show of the rules, the sizes, and where they end
 pub record Surveyed (x : Setting) (alone octets at n : ℕ) (l : List Block) (kept owned : Bool) (left end i : ℕ) : Type 0 where
   pub fields : Checking noBlock block 16 15 l n i
-  pub rule : Still (Passed (λ b. all (λ r. r x b) rules) n l i) (all (λ b. all (λ r. r x b) rules) (take n l)) kept
-  pub size : Still (Taken alone octets n l left i) (right (map (shareOf alone) (take n l)) octets) owned
+  pub looked : Looked x alone octets n l kept owned left i
   pub place : cells noBlock 16 16 5 (listed noBlock block 15) .check (l, n) ≡ 0 → Ending noBlock block 16 15 l n at i end
   pub short : end ≤ at + i * 3316
 
@@ -86,8 +64,7 @@ module _ (x : Setting) (alone octets at n : ℕ) (l : List Block) (room : at + 5
   surveyed-none some =
       record {
         fields = checking-none noBlock block 16 15 l n whole some most (lit≤ tt);
-        rule = still-none (passed-none _ n l);
-        size = still-none (taken-none alone octets n l);
+        looked = looked-none x alone octets n l whole most;
         place = λ legal. ending-none noBlock block 16 15 l n legal (lit≤ tt) at;
         short = omega arith;
       }
@@ -100,20 +77,12 @@ module _ (x : Setting) (alone octets at n : ℕ) (l : List Block) (room : at + 5
     module _ (d : Block) (k : i < n) (c : Check) (told : checkNo c ≡ block .check (getD l i d)) (fine : tagOf check.the-type c ≡ 0) where
       pub surveyed-more : (kept' owned' : Bool) (left' end' : ℕ) → kept' ≡ kept && all (λ r. r x (getD l i d)) rules → owned' ≡ (owned && leb (shareOf alone (getD l i d) .1) left) && owns (shareOf alone (getD l i d)) → left' ≡ left - shareOf alone (getD l i d) .1 → end' ≡ (end + 1) + block .size (getD l i d) → Surveyed x alone octets at n l kept' owned' left' end' (i + 1)
       surveyed-more kept' owned' left' end' ek eo el ee =
-          rw (ek, eo, el)
-          (record {
+          record {
             fields = checking-more noBlock block 16 15 l n whole i (s .fields) d k most c told fine;
-            rule = still-more kept _ (s .rule) (λ p e. passed-more _ n l i p d (omega arith) k e) (λ p e. passed-not _ n l i p d (omega arith) k e);
-            size =
-                still-more (owned && leb (shareOf alone (getD l i d) .1) left) _
-                (still-more {Q = Taken alone octets n l left i × (shareOf alone (getD l i d) .1 ≤ left)} owned _ (s .size)
-                (λ p e. (p, leb-true _ left e))
-                (λ p e. taken-short alone octets n l left i p d (omega arith) k _ refl (leb-false _ left e)))
-                (λ p e. taken-more alone octets n l left i (p .0) d (omega arith) k _ refl (p .1) e)
-                (λ p e. taken-bad alone octets n l left i (p .0) d (omega arith) k _ refl e);
+            looked = looked-more x alone octets n l whole most kept owned left i (s .looked) d k kept' owned' left' ek eo el;
             place = λ legal. ending-more noBlock block 16 15 l n legal (lit≤ tt) at i end (s .place legal) d k (end + 1) end' refl ee;
             short = omega (arith, s .short, block-bounded .most (getD l i d) (fine-check c _ told fine));
-          })
+          }
 
 -- all blocks looked at
 module _ (x : Setting) (g : Blocks) (alone octets at : ℕ) (whole : length (g .list) ≡ 16) (most : g .count ≤ 16) (owner : alone ≡ aloneOf (g .count) octets) (kept owned : Bool) (left end i : ℕ) (s : Surveyed x alone octets at (g .count) (g .list) kept owned left end i) (past : g .count ≤ i) where
@@ -121,9 +90,10 @@ module _ (x : Setting) (g : Blocks) (alone octets at : ℕ) (whole : length (g .
   unfolding blocks viewed
   surveyed-all c kept' right' end' ec ek er ee = (
     ec ∙ checking-all noBlock block 16 15 (g .list) (g .count) whole i (s .fields) past,
-    λ legal. (
-      ek ∙ still-kept kept (s .rule) (λ p. passed-all _ (g .count) (g .list) i p past),
-      er ∙ still-all owned _ (s .size) (λ p. taken-all alone octets (g .count) (g .list) left i p past) ∙ sizes-are g octets alone (g .count) whole (omega arith) owner,
-      omega (arith, ee, ending-all noBlock block 16 15 (g .list) (g .count) legal (lit≤ tt) at i end (s .place legal) past),
-    ),
+    λ legal.
+        let r = looked-all x g alone octets (g .count) whole (omega arith) owner kept owned left i (s .looked) past kept' right' ek er in (
+          r .0,
+          r .1,
+          omega (arith, ee, ending-all noBlock block 16 15 (g .list) (g .count) legal (lit≤ tt) at i end (s .place legal) past),
+        ),
   )

@@ -1,37 +1,35 @@
-// One look at the message blocks of a record: each block is copied once, and looked at for its fields, the
-// rules, its size and its bits.
+// One look at the message blocks of a record where they lie: at each block's fields, the rules, its size and its bits.
 ghost use mathlib.Core.Path.{_≡_};
 ghost use mathlib.Core.Bool.{_&&_};
 ghost use Prim.Native.Nat.{_+_, _-_};
 ghost use lib.Dec.{leb, eqb};
+ghost use lib.ListN.{length};
 ghost use Rattle.codec.specs.Answer.{pick};
 ghost use Rattle.codec.specs.Refusals.{checkNo};
 ghost use Rattle.codec.specs.Writes.{Placed};
 ghost use Rattle.header.specs.Rules.{all, rules, usedBlocks};
 ghost use Rattle.header.specs.Sizes.{owns, sizesRight};
 ghost use Rattle.header.specs.Table.{block, blocks};
+ghost use Rattle.record_octets.specs.Record.{sizeOfBlock, blockIn, sizeOfBlocksList, blocksOf, sizeOfBlocks, blocksIn};
 use bits::BitPlace;
 use bits::OctetSize;
+use cells::entry;
+use cells::load_word;
 use checker::block::check_block;
 use codec::Check;
 use codec::Fault;
 use ends::block::end_block;
 use flag::end_flag;
-use header::Block;
-use header::Blocks;
 use header::Setting;
-use rules::rule::both;
-use rules::rule::keeps;
+use record_octets::in_blocks;
+use rules::seen::Seen;
+use rules::seen::all_right;
+use rules::seen::see;
 use rules::sizes::alone_share;
-use rules::sizes::owns_rightly;
-use rules::sizes::share;
 
-// What the blocks so far show: they keep the rules; each owns what it may; the data octets that they
-// leave; the place behind them.
+// What the blocks so far show of the rules and the sizes, and the place behind them.
 pub struct Found {
-    pub kept: bool,
-    pub right: bool,
-    pub left: OctetSize,
+    pub seen: Seen,
     pub end: BitPlace,
 }
 
@@ -44,32 +42,16 @@ pub struct Survey {
     pub end: BitPlace,
 }
 
-// What n octets leave of some; none where they are too few.
-fn rest(left: OctetSize, n: OctetSize) -> OctetSize
-    ensures { λ r. ⌜ r .0 ≡ left .0 - n .0 ⌝ }
-{
-    if left.0 < n.0 {
-        return OctetSize(0);
-    }
-    OctetSize(left.0 - n.0)
-}
-
 // A legal block behind those that were looked at.
-fn look(f: Found, x: Setting, b: Block, alone: OctetSize) -> Found
-    requires { ⌜ Placed (f .end .0) (1 + block .size b) × (block .check b ≡ 0) ⌝ }
-    ensures { λ r. ⌜ (r .kept ≡ f .kept && all (λ rule. rule x b) rules) × (r .right ≡ (f .right && leb (pick (b .handling .size .present) (b .handling .size .value) (alone .0)) (f .left .0)) && owns (b, pick (b .handling .size .present) (b .handling .size .value) (alone .0))) × (r .left .0 ≡ f .left .0 - pick (b .handling .size .present) (b .handling .size .value) (alone .0)) × (r .end .0 ≡ (f .end .0 + 1) + block .size b) ⌝ }
+fn look(f: Found, x: Setting, b: &[u8], alone: OctetSize) -> Found
+    requires { ⌜ Placed (f .end .0) (1 + block .size (blockIn (now b))) × (block .check (blockIn (now b)) ≡ 0) × (length (now b) ≡ sizeOfBlock) ⌝ }
+    ensures { λ r. ⌜ (r .seen .kept ≡ f .seen .kept && all (λ rule. rule x (blockIn (now (b .entry)))) rules) × (r .seen .right ≡ (f .seen .right && leb (pick (blockIn (now (b .entry)) .handling .size .present) (blockIn (now (b .entry)) .handling .size .value) (alone .0)) (f .seen .left .0)) && owns (blockIn (now (b .entry)), pick (blockIn (now (b .entry)) .handling .size .present) (blockIn (now (b .entry)) .handling .size .value) (alone .0))) × (r .seen .left .0 ≡ f .seen .left .0 - pick (blockIn (now (b .entry)) .handling .size .present) (blockIn (now (b .entry)) .handling .size .value) (alone .0)) × (r .end .0 ≡ (f .end .0 + 1) + block .size (blockIn (now (b .entry)))) ⌝ }
 {
-    let kept = both(f.kept, keeps(x, b));
-    let n = share(b, alone);
-    let fits = both(f.right, n.0 <= f.left.0);
-    let right = both(fits, owns_rightly(b, n));
-    let left = rest(f.left, n);
+    let seen = see(f.seen, x, b, alone);
     let behind = end_flag(f.end);
     let end = end_block(behind, b);
     Found {
-        kept: kept,
-        right: right,
-        left: left,
+        seen: seen,
         end: end,
     }
 }
@@ -88,26 +70,25 @@ pub fn broken_off(fault: Check) -> Survey
 
 // The survey of legal blocks, which have taken all the data octets or not.
 fn complete(f: Found) -> Survey
-    ensures { λ r. ⌜ (checkNo (r .fault) ≡ 0) × (r .kept ≡ f .kept) × (r .right ≡ f .right && eqb (f .left .0) 0) × (r .end ≡ f .end) ⌝ }
+    ensures { λ r. ⌜ (checkNo (r .fault) ≡ 0) × (r .kept ≡ f .seen .kept) × (r .right ≡ f .seen .right && eqb (f .seen .left .0) 0) × (r .end ≡ f .end) ⌝ }
 {
-    let right = both(f.right, f.left.0 == 0);
+    let right = all_right(f.seen);
     let end = f.end;
     Survey {
         fault: Check::Fine,
-        kept: f.kept,
+        kept: f.seen.kept,
         right: right,
         end: end,
     }
 }
 
-// 1 to 16 blocks in a setting, with so many octets of user data, from a place on that leaves room for
-// the longest, 16 times 3,316 bits with their recurrence bits.
-pub fn survey_blocks(x: Setting, g: Blocks, octets: OctetSize, at: BitPlace) -> Survey
-    requires { ⌜ Placed (at .0) 53056 ⌝ }
-    ensures { λ r. ⌜ (checkNo (r .fault) ≡ blocks .check g) × (blocks .check g ≡ 0 → (r .kept ≡ all (λ b. all (λ rule. rule x b) rules) (usedBlocks g)) × (r .right ≡ sizesRight g (octets .0)) × (r .end .0 ≡ at .0 + blocks .size g)) ⌝ }
+// The entries of a list of 1 to 16 blocks in a setting, with so many octets of user data, from a place on that leaves
+// room for the longest, 16 times 3,316 bits with their recurrence bits.
+fn survey_entries(x: Setting, list: &[u8], held: u32, octets: OctetSize, at: BitPlace) -> Survey
+    requires { ⌜ Placed (at .0) 53056 × (length (now list) ≡ sizeOfBlocksList) ⌝ }
+    ensures { λ r. ⌜ (checkNo (r .fault) ≡ blocks .check (blocksOf (now (list .entry)) held)) × (blocks .check (blocksOf (now (list .entry)) held) ≡ 0 → (r .kept ≡ all (λ b. all (λ rule. rule x b) rules) (usedBlocks (blocksOf (now (list .entry)) held))) × (r .right ≡ sizesRight (blocksOf (now (list .entry)) held) (octets .0)) × (r .end .0 ≡ at .0 + blocks .size (blocksOf (now (list .entry)) held))) ⌝ }
 {
-    let list = g.list;
-    let count = g.count as usize;
+    let count = held as usize;
     if 16 < count {
         return broken_off(Check::Bad(Fault::Count));
     }
@@ -116,20 +97,31 @@ pub fn survey_blocks(x: Setting, g: Blocks, octets: OctetSize, at: BitPlace) -> 
     }
     let alone = alone_share(count, octets);
     let mut found = Found {
-        kept: true,
-        right: true,
-        left: octets,
+        seen: Seen {
+            kept: true,
+            right: true,
+            left: octets,
+        },
         end: at,
     };
     let mut i: usize = 0;
     while i < count {
-        let entry = list[i];
-        let c = check_block(entry);
+        let b = entry(list, i, in_blocks::ENTRY);
+        let c = check_block(b);
         let Check::Fine = c else {
             return broken_off(c);
         };
-        found = look(found, x, entry, alone);
+        found = look(found, x, b, alone);
         i += 1;
     }
     complete(found)
+}
+
+// The blocks of a record.
+pub fn survey_blocks(x: Setting, g: &[u8], octets: OctetSize, at: BitPlace) -> Survey
+    requires { ⌜ Placed (at .0) 53056 × (length (now g) ≡ sizeOfBlocks) ⌝ }
+    ensures { λ r. ⌜ (checkNo (r .fault) ≡ blocks .check (blocksIn (now (g .entry)))) × (blocks .check (blocksIn (now (g .entry))) ≡ 0 → (r .kept ≡ all (λ b. all (λ rule. rule x b) rules) (usedBlocks (blocksIn (now (g .entry))))) × (r .right ≡ sizesRight (blocksIn (now (g .entry))) (octets .0)) × (r .end .0 ≡ at .0 + blocks .size (blocksIn (now (g .entry))))) ⌝ }
+{
+    let count = load_word(&g[in_blocks::COUNT..in_blocks::END]);
+    survey_entries(x, &g[in_blocks::LIST..in_blocks::COUNT], count, octets, at)
 }

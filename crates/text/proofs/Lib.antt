@@ -1,4 +1,4 @@
 pub mod Lawful
 mod Reading
-mod Writing
-mod Checking
+pub mod Writing
+pub mod Checking

@@ -1,12 +1,10 @@
-// A text of 7-bit characters: read, written, checked before it is written, and followed to the place
-// where its bits end.
+// A text of 7-bit characters: read, and checked where it is held by value, as the table does.
 ghost use mathlib.Core.Path.{_≡_};
-ghost use Prim.Native.Nat.{_+_, _≤_, max};
+ghost use Prim.Native.Nat.{_≤_, max};
 ghost use lib.ListN.{length};
 ghost use Rattle.bits.specs.Bits.{bitsOf};
 ghost use Rattle.bits.specs.Units.{datagramLimit};
 ghost use Rattle.codec.specs.Refusals.{answer, checkNo};
-ghost use Rattle.codec.specs.Writes.{Placed, Room, Writes};
 ghost use Rattle.text.specs.Texts.{text, noText};
 use bits::BitPlace;
 use codec::Check;
@@ -15,7 +13,6 @@ use codec::Number;
 use codec::Step;
 use number::Range;
 use number::read_number;
-use number::write_number;
 
 // The characters of a text and their count. The cells behind them are unused.
 #[repr(C)]
@@ -30,13 +27,13 @@ pub struct TextRead {
 }
 
 // A character or the marker that ends a text.
-const CHARACTER: Range = Range {
+pub const CHARACTER: Range = Range {
     width: 7,
     least: 0,
     most: 127,
 };
 
-const MARKER: u32 = 127;
+pub const MARKER: u32 = 127;
 
 pub fn no_text() -> Text
     ensures { λ r. ⌜ r ≡ noText ⌝ }
@@ -99,25 +96,6 @@ pub fn read_text(s: &[u8], at: BitPlace, most: usize) -> TextRead
     }
 }
 
-pub fn write_text(out: &mut [u8], at: BitPlace, most: usize, t: Text) -> BitPlace
-    requires { ⌜ Room (now out) (at .0) (text most .size t) × (most ≤ 64) ⌝ }
-    ensures { λ r. ⌜ Writes (text most) t (now (out .entry)) (now (out .exit)) (at .0) (r .0) ⌝ }
-{
-    let chars = t.chars;
-    let len = t.len as usize;
-    let mut i: usize = 0;
-    let mut place = at;
-    while i < most {
-        if len <= i {
-            return write_number(out, place, CHARACTER, MARKER);
-        }
-        let v = chars[i] as u32;
-        place = write_number(out, place, CHARACTER, v);
-        i += 1;
-    }
-    place
-}
-
 // The larger of two characters.
 fn larger(a: u8, b: u8) -> u8
     ensures { λ r. ⌜ r ≡ max a b ⌝ }
@@ -148,15 +126,4 @@ pub fn check_text(most: usize, t: Text) -> Check
         return Check::Bad(Fault::BadText);
     }
     Check::Fine
-}
-
-pub fn end_text(at: BitPlace, most: usize, t: Text) -> BitPlace
-    requires { ⌜ Placed (at .0) (text most .size t) × (most ≤ 64) ⌝ }
-    ensures { λ r. ⌜ r .0 ≡ at .0 + text most .size t ⌝ }
-{
-    let len = t.len as usize;
-    if len < most {
-        return BitPlace(at.0 + 7 * (len + 1));
-    }
-    BitPlace(at.0 + 7 * most)
 }

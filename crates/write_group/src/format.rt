@@ -1,49 +1,76 @@
 // A block's user message format, standard version, G4 and file name.
 ghost use Rattle.codec.specs.Writes.{Room, Writes};
 ghost use Rattle.header.specs.Table.{identity, optionalIdentity, format};
+ghost use Rattle.record_octets.specs.Record.{sizeOfIdentity, identityIn, sizeOfOptionalIdentity, optionalIdentityIn, sizeOfFormat, formatIn};
+ghost use lib.ListN.{length};
+ghost use mathlib.Core.Path.{_≡_};
 use crate::texts::write_optional_text;
 use bits::BitPlace;
-use flag::write_flag;
-use header::Format;
-use header::Identity;
-use header::OptionalIdentity;
+use cells::load_flag;
 use header::layout::FAD;
 use header::layout::FILE;
 use header::layout::MESSAGE_NUMBER;
 use header::layout::MESSAGE_SUBTYPE;
 use header::layout::STANDARD_VERSION;
 use header::layout::UMF;
-use number::write_number;
-use optional::write_optional;
+use leaves::numbers::write_mark;
+use leaves::numbers::write_optional;
+use leaves::numbers::write_word;
+use record_octets::in_format;
+use record_octets::in_identity;
+use record_octets::in_optional_identity;
 
 // G4.
-pub fn write_identity(out: &mut [u8], at: BitPlace, x: Identity) -> BitPlace
-    requires { ⌜ Room (now out) (at .0) (identity .size x) ⌝ }
-    ensures { λ r. ⌜ Writes identity x (now (out .entry)) (now (out .exit)) (at .0) (r .0) ⌝ }
+pub fn write_identity(out: &mut [u8], at: BitPlace, x: &[u8]) -> BitPlace
+    requires { ⌜ Room (now out) (at .0) (identity .size (identityIn (now x))) × (length (now x) ≡ sizeOfIdentity) ⌝ }
+    ensures { λ r. ⌜ Writes identity (identityIn (now (x .entry))) (now (out .entry)) (now (out .exit)) (at .0) (r .0) ⌝ }
 {
-    let at = write_number(out, at, FAD, x.fad);
-    let at = write_number(out, at, MESSAGE_NUMBER, x.number);
-    write_optional(out, at, MESSAGE_SUBTYPE, x.subtype)
+    let at = write_word(out, at, FAD, &x[in_identity::FAD..in_identity::NUMBER]);
+    let at = write_word(
+        out,
+        at,
+        MESSAGE_NUMBER,
+        &x[in_identity::NUMBER..in_identity::SUBTYPE],
+    );
+    write_optional(
+        out,
+        at,
+        MESSAGE_SUBTYPE,
+        &x[in_identity::SUBTYPE..in_identity::END],
+    )
 }
 
-pub fn write_optional_identity(out: &mut [u8], at: BitPlace, x: OptionalIdentity) -> BitPlace
-    requires { ⌜ Room (now out) (at .0) (optionalIdentity .size x) ⌝ }
-    ensures { λ r. ⌜ Writes optionalIdentity x (now (out .entry)) (now (out .exit)) (at .0) (r .0) ⌝ }
+pub fn write_optional_identity(out: &mut [u8], at: BitPlace, x: &[u8]) -> BitPlace
+    requires { ⌜ Room (now out) (at .0) (optionalIdentity .size (optionalIdentityIn (now x))) × (length (now x) ≡ sizeOfOptionalIdentity) ⌝ }
+    ensures { λ r. ⌜ Writes optionalIdentity (optionalIdentityIn (now (x .entry))) (now (out .entry)) (now (out .exit)) (at .0) (r .0) ⌝ }
 {
-    let present = x.present;
-    let next = write_flag(out, at, present);
+    let present = load_flag(&x[in_optional_identity::PRESENT..in_optional_identity::IDENTITY]);
+    let next = write_mark(
+        out,
+        at,
+        &x[in_optional_identity::PRESENT..in_optional_identity::IDENTITY],
+    );
     if present {
-        return write_identity(out, next, x.identity);
+        return write_identity(
+            out,
+            next,
+            &x[in_optional_identity::IDENTITY..in_optional_identity::END],
+        );
     }
     next
 }
 
-pub fn write_format(out: &mut [u8], at: BitPlace, x: Format) -> BitPlace
-    requires { ⌜ Room (now out) (at .0) (format .size x) ⌝ }
-    ensures { λ r. ⌜ Writes format x (now (out .entry)) (now (out .exit)) (at .0) (r .0) ⌝ }
+pub fn write_format(out: &mut [u8], at: BitPlace, x: &[u8]) -> BitPlace
+    requires { ⌜ Room (now out) (at .0) (format .size (formatIn (now x))) × (length (now x) ≡ sizeOfFormat) ⌝ }
+    ensures { λ r. ⌜ Writes format (formatIn (now (x .entry))) (now (out .entry)) (now (out .exit)) (at .0) (r .0) ⌝ }
 {
-    let at = write_number(out, at, UMF, x.umf);
-    let at = write_optional(out, at, STANDARD_VERSION, x.version);
-    let at = write_optional_identity(out, at, x.identity);
-    write_optional_text(out, at, FILE, x.file)
+    let at = write_word(out, at, UMF, &x[in_format::UMF..in_format::VERSION]);
+    let at = write_optional(
+        out,
+        at,
+        STANDARD_VERSION,
+        &x[in_format::VERSION..in_format::IDENTITY],
+    );
+    let at = write_optional_identity(out, at, &x[in_format::IDENTITY..in_format::FILE]);
+    write_optional_text(out, at, FILE, &x[in_format::FILE..in_format::END])
 }

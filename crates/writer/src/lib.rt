@@ -1,16 +1,22 @@
-// Writing a record as a header, and the check alone.
+// Writing a record as a header, and the check alone. A record is lent octets: any octets are some record.
 ghost use mathlib.Core.Path.{_≡_};
 ghost use lib.ListN.{length};
 ghost use Rattle.codec.specs.Refusals.{checkNo, faultNo};
 ghost use Rattle.header.specs.Rules.{rulesKept};
 ghost use Rattle.header.specs.Sizes.{sizesRight};
+ghost use Rattle.record_octets.specs.Record.{sizeOfHeader, headerIn};
 ghost use Rattle.writer.specs.Writing.{fieldsFault, fieldsEnd, answered, rejected, checking, writing, outputAfter, told};
 use bits::BitPlace;
 use bits::OctetSize;
+use checker::front::check_front;
 use codec::Check;
 use codec::Fault;
-use header::Header;
+use leaves::setting::setting_of;
+use record_octets::RECORD;
+use record_octets::in_header;
 use survey::Survey;
+use survey::broken_off;
+use survey::survey_blocks;
 
 pub mod wire;
 
@@ -38,22 +44,23 @@ fn refused_by(fields: Check) -> Written
 }
 
 // Every field, in the order of the table; where none is at fault, what they show besides.
-fn survey_record(h: Header, count: OctetSize) -> Survey
-    ensures { λ r. ⌜ (checkNo (r .fault) ≡ fieldsFault h) × (fieldsFault h ≡ 0 → (r .kept ≡ rulesKept h) × (r .right ≡ sizesRight (h .blocks) (count .0)) × (r .end .0 ≡ fieldsEnd h)) ⌝ }
+fn survey_record(h: &[u8], count: OctetSize) -> Survey
+    requires { ⌜ length (now h) ≡ sizeOfHeader ⌝ }
+    ensures { λ r. ⌜ (checkNo (r .fault) ≡ fieldsFault (headerIn (now (h .entry)))) × (fieldsFault (headerIn (now (h .entry))) ≡ 0 → (r .kept ≡ rulesKept (headerIn (now (h .entry)))) × (r .right ≡ sizesRight (headerIn (now (h .entry)) .blocks) (count .0)) × (r .end .0 ≡ fieldsEnd (headerIn (now (h .entry))))) ⌝ }
 {
-    let front = checker::front::check_front(h.front);
+    let front = check_front(&h[in_header::FRONT..in_header::SIZED]);
     let Check::Fine = front else {
-        return survey::broken_off(front);
+        return broken_off(front);
     };
-    let x = rules::rule::setting_of(h);
+    let x = setting_of(h);
     let at = wire::blocks_place(h);
-    survey::survey_blocks(x, h.blocks, count, at)
+    survey_blocks(x, &h[in_header::BLOCKS..in_header::END], count, at)
 }
 
 // Whether a record is valid with so many octets of user data: the fields, then the rules (8), the
 // sizes (10) and the datagram's length (12). Done tells the octets that its header has.
-pub fn check(h: Header, count: OctetSize) -> Written
-    ensures { λ r. ⌜ told r ≡ checking h (count .0) ⌝ }
+pub fn check(h: &[u8; RECORD], count: OctetSize) -> Written
+    ensures { λ r. ⌜ told r ≡ checking (headerIn (now (h .entry))) (count .0) ⌝ }
 {
     let survey = survey_record(h, count);
     let fields = survey.fault;
@@ -78,8 +85,8 @@ pub fn check(h: Header, count: OctetSize) -> Written
 // Writes a record's header into the output: the record is checked, then the room (11); only then is
 // the first bit written. Done, the output begins with the header and is otherwise as it was; refused,
 // it is as it was.
-pub fn write(h: Header, count: OctetSize, out: &mut [u8]) -> Written
-    ensures { λ r. ⌜ (told r ≡ writing h (count .0) (length (now (out .entry)))) × (now (out .exit) ≡ outputAfter h (writing h (count .0) (length (now (out .entry)))) (now (out .entry))) ⌝ }
+pub fn write(h: &[u8; RECORD], count: OctetSize, out: &mut [u8]) -> Written
+    ensures { λ r. ⌜ (told r ≡ writing (headerIn (now (h .entry))) (count .0) (length (now (out .entry)))) × (now (out .exit) ≡ outputAfter (headerIn (now (h .entry))) (writing (headerIn (now (h .entry))) (count .0) (length (now (out .entry)))) (now (out .entry))) ⌝ }
 {
     let answer = check(h, count);
     let Written::Done(size) = answer else {

@@ -1,4 +1,5 @@
-//! The calls, proved against fast: same inputs, by turns.
+//! The calls, proved against fast: same inputs, by turns. Both sides are lent the record and work on it where it lies;
+//! what the proved calls took while the record went over by value stands in docs/BENCHMARKS.md.
 
 use crate::fast;
 use crate::same::Call;
@@ -70,9 +71,9 @@ fn fast_reading(s: &Sample, read: fast::Read) -> Turn<'_> {
 }
 
 fn reading(s: &Sample) -> Line {
-    let proved = repeated(batch(s.octets), || {
-        // By reference: handing over the answer itself would copy it once more.
-        black_box(&pruvelaccio::read(black_box(&s.datagram)));
+    let mut record = Box::new(fast::NO_HEADER);
+    let proved = repeated(batch(s.octets), move || {
+        black_box(&pruvelaccio::read_into(black_box(&s.datagram), black_box(&mut record)));
     });
     let (fast, words) = (fast_reading(s, fast::read), fast_reading(s, fast::by_words::read));
     compared("read", s, &mut [proved, fast, words])
@@ -188,13 +189,19 @@ fn explain(list: &[Sample]) {
         size_of::<Table>()
     );
     println!(
-        "Reading clears the whole record first, on both sides, because unused cells have to be 0. Output buffers are \
-         not cleared between runs. The tables are put back outside the time."
+        "Reading determines every cell of the record, on both sides, because unused cells have to be 0; a refusal \
+         leaves the record of proved as it was, that of fast not. Output buffers are not cleared between runs. The \
+         tables are put back outside the time."
     );
     println!(
-        "proved: the wrapper's call, structs by value. fast: safe Rust by reference, fields by octet fragments as the \
-         proved code takes them, the table changed in place. words: fast with fields out of 64-bit words. by value: \
-         fast behind the exported signature, record and table copied in, the table copied out and stored.\n"
+        "proved: the wrapper's call, the record lent, the table by value. fast: safe Rust by reference, fields by \
+         octet fragments as the proved code takes them, the table changed in place. words: fast with fields out of \
+         64-bit words. by value: fast behind a signature that takes all by value, record and table copied in, the \
+         table copied out and stored."
+    );
+    println!(
+        "What proved took while the record went by value too is in docs/BENCHMARKS.md; the other columns are made as \
+         they were then.\n"
     );
 }
 

@@ -6,7 +6,7 @@ use crate::draft;
 use crate::fast;
 use crate::random::Random;
 use crate::samples::{self, Sample};
-use pruvelaccio::{Header, Key, Refusal, Table};
+use pruvelaccio::{Header, HeaderRead, Key, Refusal, Table};
 
 const RECORDS: usize = 4000;
 const TABLES: usize = 80;
@@ -49,9 +49,10 @@ impl Call<'_> {
     }
 }
 
-/// What was compared so far, and the refusals met. The records that the fast readings fill, by fragments and by words,
-/// are used again and again, so that they always hold old cells.
+/// What was compared so far, and the refusals met. The records that the readings fill, the proved one and the fast ones
+/// by fragments and by words, are used again and again, so that they always hold old cells.
 struct Compared {
+    lent: Box<Header>,
     filled: [Box<Header>; 2],
     datagrams: usize,
     records: usize,
@@ -64,8 +65,18 @@ impl Compared {
         self.met.extend(answer.as_ref().err().map(|refusal| refusal.number));
     }
 
+    /// A record that is lent is filled as a new one is; after a refusal it is as it was.
+    fn lent_reading(&mut self, datagram: &[u8], proved: &Result<HeaderRead, Refusal>) {
+        let before = all_cells(&self.lent);
+        let length = pruvelaccio::read_into(datagram, &mut self.lent);
+        assert_eq!(proved.as_ref().map(|r| r.length), length.as_ref().copied());
+        let after = proved.as_ref().map_or(before, |r| all_cells(&r.header));
+        assert_eq!(after, all_cells(&self.lent));
+    }
+
     fn reading(&mut self, datagram: &[u8]) {
         let proved = pruvelaccio::read(datagram);
+        self.lent_reading(datagram, &proved);
         let ways: [fast::Read; 2] = [fast::read, fast::by_words::read];
         for (fast_read, record) in ways.iter().zip(&mut self.filled) {
             let fast = fast_read(datagram, record);
@@ -237,7 +248,9 @@ fn random_table(compared: &mut Compared, random: &mut Random) {
 pub fn run() {
     let mut random = Random(0x2045_4700_1c00_0002);
     let filled = [Box::new(fast::NO_HEADER), Box::new(fast::NO_HEADER)];
-    let mut compared = Compared { filled, datagrams: 0, records: 0, calls: 0, met: Vec::new() };
+    let lent = Box::new(fast::NO_HEADER);
+    let mut compared =
+        Compared { lent, filled, datagrams: 0, records: 0, calls: 0, met: Vec::new() };
     measured(&mut compared);
     longest(&mut compared);
     (0..RECORDS).for_each(|_| random_record(&mut compared, &mut random));

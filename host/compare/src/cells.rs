@@ -1,6 +1,8 @@
 //! The cells of the product's structs, each of them named once: a struct of zeros, the first cell in which two
-//! structs differ, and a way to come by every cell. The wrapper hands over
+//! structs differ, and a way to come by every cell with its place among the struct's octets. The wrapper hands over
 //! every struct with its fields.
+
+use std::mem::{offset_of, size_of};
 
 use pruvelaccio::*;
 
@@ -17,7 +19,8 @@ pub trait Cells: Copy {
     /// The path of the first cell that differs and its two values.
     fn difference(&self, other: &Self) -> Option<String>;
 
-    fn each(&mut self, visit: &mut dyn FnMut(Cell));
+    /// Every cell, with the offset of its first octet; the struct's own octets begin at `at`.
+    fn each(&mut self, at: usize, visit: &mut dyn FnMut(usize, Cell));
 }
 
 macro_rules! leaf {
@@ -29,8 +32,8 @@ macro_rules! leaf {
                 (self != other).then(|| format!(": {self} beside {other}"))
             }
 
-            fn each(&mut self, visit: &mut dyn FnMut(Cell)) {
-                visit(Cell::$cell(self));
+            fn each(&mut self, at: usize, visit: &mut dyn FnMut(usize, Cell)) {
+                visit(at, Cell::$cell(self));
             }
         }
     };
@@ -47,8 +50,8 @@ impl Cells for [u8; 64] {
         (self != other).then(|| format!(": {self:?} beside {other:?}"))
     }
 
-    fn each(&mut self, visit: &mut dyn FnMut(Cell)) {
-        self.iter_mut().for_each(|c| visit(Cell::Char(c)));
+    fn each(&mut self, at: usize, visit: &mut dyn FnMut(usize, Cell)) {
+        self.iter_mut().enumerate().for_each(|(i, c)| visit(at + i, Cell::Char(c)));
     }
 }
 
@@ -64,8 +67,10 @@ impl<T: Cells, const N: usize> Cells for [T; N] {
         None
     }
 
-    fn each(&mut self, visit: &mut dyn FnMut(Cell)) {
-        self.iter_mut().for_each(|cell| cell.each(visit));
+    fn each(&mut self, at: usize, visit: &mut dyn FnMut(usize, Cell)) {
+        for (i, cell) in self.iter_mut().enumerate() {
+            cell.each(at + i * size_of::<T>(), visit);
+        }
     }
 }
 
@@ -81,11 +86,31 @@ macro_rules! cells {
                 None
             }
 
-            fn each(&mut self, visit: &mut dyn FnMut(Cell)) {
-                $(self.$field.each(visit);)+
+            fn each(&mut self, at: usize, visit: &mut dyn FnMut(usize, Cell)) {
+                $(self.$field.each(at + offset_of!($type, $field), visit);)+
             }
         }
     )+ };
 }
 
 pruvelaccio::each_struct!(cells);
+
+/// Where the flags, the numbers and the characters of a record stand.
+pub struct Places {
+    pub flags: Vec<usize>,
+    pub numbers: Vec<usize>,
+    pub characters: Vec<usize>,
+}
+
+impl Places {
+    pub fn of_a_record() -> Places {
+        let mut places = Places { flags: Vec::new(), numbers: Vec::new(), characters: Vec::new() };
+        let mut header = Header::ZERO;
+        header.each(0, &mut |at, cell| match cell {
+            Cell::Flag(_) => places.flags.push(at),
+            Cell::Number(_) => places.numbers.push(at),
+            Cell::Char(_) => places.characters.push(at),
+        });
+        places
+    }
+}

@@ -1,13 +1,14 @@
 //! Records and datagrams laid before both programs: reading, the user data, the check and writing.
 
-use pruvelaccio::raw::{ReadAnswer, SizeAnswer};
+use pruvelaccio::raw::SizeAnswer;
+use pruvelaccio::RecordOctets;
 use reference::Header;
 
 use crate::cells::Cells;
-use crate::convert;
+use crate::laid;
 use crate::library;
 use crate::records::Case;
-use crate::run::{caught, Run};
+use crate::run::{as_record, as_record_mut, caught, side, Fences, Run};
 use crate::tally::Kind;
 
 /// Octets before and behind a lent output that no call may touch.
@@ -41,26 +42,32 @@ pub fn same_octets(call: &str, plain: &[u8], got: &[u8]) -> Result<(), String> {
     ))
 }
 
-/// The whole answer: beside a record its unused cells are 0, beside a refusal the record is zeros and the length 0.
-pub fn same_reading(plain: &Reading, got: &ReadAnswer) -> Result<(), String> {
-    let mut header = pruvelaccio::Header::ZERO;
-    let told = match plain {
-        Ok((record, length)) => {
-            convert::header(record, &mut header, 0);
-            (0, 0, *length)
-        }
-        Err((number, place)) => (*number, *place, 0),
+/// The first octet in which two records differ, and the first cell.
+pub fn different(expected: &RecordOctets, got: &RecordOctets) -> Option<String> {
+    let at = expected.octets().iter().zip(got.octets()).position(|(a, b)| a != b)?;
+    let cell = pruvelaccio::Header::from(expected).difference(&pruvelaccio::Header::from(got));
+    let cell = cell.map_or("between the cells".to_string(), |path| format!("header{path}"));
+    Some(format!("octet {at}, {cell}"))
+}
+
+/// The answer, and every octet of the record: done, it is the second program's with 0 in unused cells and between the
+/// cells; refused, the record is as it was and the length 0.
+pub fn same_reading(
+    plain: &Reading,
+    before: &RecordOctets,
+    got: &SizeAnswer,
+    after: &RecordOctets,
+) -> Result<(), String> {
+    let (told, record) = match plain {
+        Ok((record, length)) => ((0, 0, *length), laid::alone(record)),
+        Err((number, place)) => ((*number, *place, 0), *before),
     };
     let own = (got.number, got.place, got.length);
     if told != own {
         return Err(format!("read: the second program gives {told:?}, the library {own:?}"));
     }
-    match header.difference(&got.header) {
-        Some(cell) => {
-            Err(format!("read: second program's cell beside the library's at header{cell}"))
-        }
-        None => Ok(()),
-    }
+    let difference = different(&record, after);
+    difference.map_or(Ok(()), |at| Err(format!("read: what should be there beside what is: {at}")))
 }
 
 pub fn hex(octets: &[u8]) -> String {
@@ -124,7 +131,7 @@ pub fn compare_datagram(run: &mut Run, datagram: &[u8]) -> Result<Option<Header>
 
 fn read_and_write(run: &mut Run, datagram: &[u8]) -> Result<Option<Header>, String> {
     let plain = reference::read(datagram);
-    same_reading(&plain, &library::read(datagram)?)?;
+    compare_reading(run, datagram, &plain)?;
     run.tally.note(Kind::Read, plain.as_ref().err().map_or(0, |refusal| refusal.0))?;
     same_data(datagram)?;
     let Ok((record, length)) = plain else { return Ok(None) };
@@ -134,6 +141,24 @@ fn read_and_write(run: &mut Run, datagram: &[u8]) -> Result<Option<Header>, Stri
     let written = compare_write(run, &case, &header, length)?.unwrap_or_default();
     same_octets("written again", &datagram[..length], &written)?;
     Ok(Some(case.record))
+}
+
+/// Datagram and record stand between fences, the record full of rubbish. No call may store to the datagram, nor to the
+/// record if the datagram is refused; asking the system to see to that costs much, so it is done now and then.
+fn compare_reading(run: &mut Run, datagram: &[u8], plain: &Reading) -> Result<(), String> {
+    let before = run.rubbish.octets(&mut run.random);
+    let Fences { datagram: from, record, .. } = &mut run.fences;
+    from.hold(datagram, side(&mut run.random));
+    record.hold(before.octets(), side(&mut run.random));
+    if run.random.one_in(8) {
+        from.close();
+    }
+    if plain.is_err() && run.random.one_in(4) {
+        record.close();
+    }
+    let got = library::read(from.lent(), as_record_mut(record.lent_mut()))?;
+    record.intact()?;
+    same_reading(plain, before, &got, as_record(record.lent()))
 }
 
 /// The same part of the same datagram: where it starts and how long it is.

@@ -163,6 +163,11 @@ fn spoiled(pool: &Pool, (name, spoil): &(&str, Spoil), random: &mut Random) -> B
     panic!("no table could be spoiled: {name}");
 }
 
+/// A table spoiled in any way.
+pub fn any_spoiled(pool: &Pool, random: &mut Random) -> Board {
+    spoiled(pool, random.pick(SPOILS), random)
+}
+
 /// All four calls on a table spoiled in the way of this turn.
 pub fn compare_spoiled(run: &mut Run, turn: u64) -> Result<(), String> {
     let pool = Pool::new(&mut run.random);

@@ -1,9 +1,10 @@
-//! The proved library, asked twice each time: through the safe wrapper and by the exported function itself. The
-//! wrapper leaves out what stands beside a refusal (the zero record, length 0, the table as it came), so what is
-//! compared are the function's own answers; here the wrapper is held against them.
+//! The proved library, asked twice each time: by the exported function itself and through the safe wrapper. The wrapper
+//! leaves out what stands beside a refusal (length 0, the table as it came), so what is compared are the function's own
+//! answers; here the wrapper is held against them. The exported function gets the caller's own memory, the wrapper
+//! copies of it.
 
-use pruvelaccio::raw::{self, ReadAnswer, SizeAnswer, TableAnswer};
-use pruvelaccio::{Header, Key, Refusal, Table};
+use pruvelaccio::raw::{self, SizeAnswer, TableAnswer};
+use pruvelaccio::{Header, Key, RecordOctets, Refusal, Table, RECORD};
 
 use crate::cells::Cells;
 
@@ -22,13 +23,70 @@ fn agree<T: PartialEq + std::fmt::Debug>(call: &str, own: T, wrapper: T) -> Resu
     Err(format!("{call}: the exported function gives {own:?}, the wrapper {wrapper:?}"))
 }
 
-pub fn read(datagram: &[u8]) -> Result<ReadAnswer, String> {
-    // SAFETY: pointer and length are those of one slice.
-    let own = unsafe { raw::pruvelaccio_read_value(datagram.as_ptr(), datagram.len()) };
-    let wrapper = pruvelaccio::read(datagram);
+/// A record in one of the two forms in which a host lends it, with the wrapper's calls for that form.
+pub trait Lent {
+    fn pointer(&self) -> *const [u8; RECORD];
+    fn check(&self, count: usize) -> Result<usize, Refusal>;
+    fn write(&self, count: usize, out: &mut [u8]) -> Result<usize, Refusal>;
+    fn post(&self, table: &mut Table, number: u32, count: usize) -> Result<(), Refusal>;
+    fn receipt(&self, table: &mut Table, number: u32, count: usize) -> Result<(), Refusal>;
+}
+
+impl Lent for Header {
+    fn pointer(&self) -> *const [u8; RECORD] {
+        std::ptr::from_ref(self).cast()
+    }
+
+    fn check(&self, count: usize) -> Result<usize, Refusal> {
+        pruvelaccio::check(self, count)
+    }
+
+    fn write(&self, count: usize, out: &mut [u8]) -> Result<usize, Refusal> {
+        pruvelaccio::write(self, count, out)
+    }
+
+    fn post(&self, table: &mut Table, number: u32, count: usize) -> Result<(), Refusal> {
+        table.post(self, number, count)
+    }
+
+    fn receipt(&self, table: &mut Table, number: u32, count: usize) -> Result<(), Refusal> {
+        table.receipt(self, number, count)
+    }
+}
+
+impl Lent for RecordOctets {
+    fn pointer(&self) -> *const [u8; RECORD] {
+        self.octets()
+    }
+
+    fn check(&self, count: usize) -> Result<usize, Refusal> {
+        pruvelaccio::check_octets(self, count)
+    }
+
+    fn write(&self, count: usize, out: &mut [u8]) -> Result<usize, Refusal> {
+        pruvelaccio::write_octets(self, count, out)
+    }
+
+    fn post(&self, table: &mut Table, number: u32, count: usize) -> Result<(), Refusal> {
+        table.post_octets(self, number, count)
+    }
+
+    fn receipt(&self, table: &mut Table, number: u32, count: usize) -> Result<(), Refusal> {
+        table.receipt_octets(self, number, count)
+    }
+}
+
+pub fn read(datagram: &[u8], record: &mut RecordOctets) -> Result<SizeAnswer, String> {
+    let mut second = *record;
+    let pointer = record.octets_mut();
+    // SAFETY: pointer and length are those of one slice, and the record is lent for this call alone.
+    let own = unsafe { raw::pruvelaccio_read_octets(datagram.as_ptr(), datagram.len(), pointer) };
     let told = refusal(own.number, own.place, own.length);
+    agree("read_octets", told, pruvelaccio::read_octets(datagram, &mut second))?;
+    agree("read_octets", &*record, &second)?;
+    let wrapper = pruvelaccio::read(datagram);
     agree("read", told, wrapper.map(|read| read.length))?;
-    let difference = wrapper.ok().and_then(|read| own.header.difference(&read.header));
+    let difference = wrapper.ok().and_then(|read| Header::from(&*record).difference(&read.header));
     agree("read", difference, None)?;
     Ok(own)
 }
@@ -43,20 +101,22 @@ pub fn user_data(datagram: &[u8]) -> Result<(usize, usize), String> {
     Ok((offset, part.len()))
 }
 
-pub fn check(header: &Header, count: usize) -> Result<SizeAnswer, String> {
-    // SAFETY: every struct is a valid argument; it goes by value.
-    let own = unsafe { raw::pruvelaccio_check_value(*header, count) };
+pub fn check(record: &impl Lent, count: usize) -> Result<SizeAnswer, String> {
+    // SAFETY: the pointer is that of a whole record; any octets are some record.
+    let own = unsafe { raw::pruvelaccio_check_octets(record.pointer(), count) };
     let told = refusal(own.number, own.place, own.length);
-    agree("check", told, pruvelaccio::check(header, count))?;
+    agree("check", told, record.check(count))?;
     Ok(own)
 }
 
-pub fn write(header: &Header, count: usize, out: &mut [u8]) -> Result<SizeAnswer, String> {
+pub fn write(record: &impl Lent, count: usize, out: &mut [u8]) -> Result<SizeAnswer, String> {
     let mut second = out.to_vec();
-    // SAFETY: pointer and length are those of a slice lent for this call alone.
-    let own = unsafe { raw::pruvelaccio_write_value(*header, count, out.as_mut_ptr(), out.len()) };
+    let room = out.len();
+    // SAFETY: as in `check`; pointer and length are those of a slice lent for this call alone.
+    let own =
+        unsafe { raw::pruvelaccio_write_octets(record.pointer(), count, out.as_mut_ptr(), room) };
     let told = refusal(own.number, own.place, own.length);
-    agree("write", told, pruvelaccio::write(header, count, &mut second))?;
+    agree("write", told, record.write(count, &mut second))?;
     agree("write", &*out, &second)?;
     Ok(own)
 }
@@ -82,27 +142,27 @@ fn changed(
     Ok(own)
 }
 
-pub fn post(t: &Table, h: &Header, number: u32, count: usize) -> Result<TableAnswer, String> {
-    // SAFETY: as in `check`.
-    let own = unsafe { raw::pruvelaccio_post_value(*t, *h, number, count) };
-    changed("post", t, own, |table| table.post(h, number, count))
+pub fn post(t: &Table, h: &impl Lent, number: u32, count: usize) -> Result<TableAnswer, String> {
+    // SAFETY: as in `check`; every table is a valid argument, and it goes by value.
+    let own = unsafe { raw::pruvelaccio_post_value(*t, h.pointer(), number, count) };
+    changed("post", t, own, |table| h.post(table, number, count))
 }
 
-pub fn receipt(t: &Table, h: &Header, number: u32, count: usize) -> Result<TableAnswer, String> {
-    // SAFETY: as in `check`.
-    let own = unsafe { raw::pruvelaccio_receipt_value(*t, *h, number, count) };
-    changed("receipt", t, own, |table| table.receipt(h, number, count))
+pub fn receipt(t: &Table, h: &impl Lent, number: u32, count: usize) -> Result<TableAnswer, String> {
+    // SAFETY: as in `post`.
+    let own = unsafe { raw::pruvelaccio_receipt_value(*t, h.pointer(), number, count) };
+    changed("receipt", t, own, |table| h.receipt(table, number, count))
 }
 
 pub fn release(t: &Table, key: &Key) -> Result<TableAnswer, String> {
-    // SAFETY: as in `check`.
+    // SAFETY: every struct is a valid argument; they go by value.
     let own = unsafe { raw::pruvelaccio_release_value(*t, *key) };
     changed("release", t, own, |table| table.release(key))
 }
 
 pub fn list_row(t: &Table, number: u32, out: &mut [u8]) -> Result<SizeAnswer, String> {
     let mut second = out.to_vec();
-    // SAFETY: as in `write`.
+    // SAFETY: as in `write` and `release`.
     let own = unsafe { raw::pruvelaccio_list_row_value(*t, number, out.as_mut_ptr(), out.len()) };
     let told = refusal(own.number, own.place, own.length);
     agree("list_row", told, t.list_row(number, &mut second))?;

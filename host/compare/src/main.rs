@@ -1,15 +1,21 @@
 //! Lays the proved library and the program `pending_list` beside the second program, `host/reference`, on many
-//! inputs in both directions. Ends with status 1 at the first difference, or if a refusal came up too seldom.
+//! inputs in both directions: records as structs and as whole octets of any kind, datagrams, lists of calls. Ends with
+//! status 1 at the first difference, or if a refusal came up too seldom.
 
+mod any_octets;
 mod cells;
 mod convert;
 mod damage;
 mod datagrams;
 mod emit;
+mod fenced;
+mod flags;
 mod headers;
 mod illformed;
+mod laid;
 mod library;
 mod listing;
+mod octets;
 mod pool;
 mod program;
 mod program_cases;
@@ -19,6 +25,7 @@ mod rubbish;
 mod run;
 mod selfcheck;
 mod tables;
+mod taken;
 mod tally;
 mod wholes;
 
@@ -34,12 +41,15 @@ const INPUTS: u64 = 200_000;
 /// Inputs of `pending_list` for each seed.
 const PROGRAMS: u64 = 250;
 
-/// Octets of stack for a seed's thread: records and tables go by value.
+/// One whole record of octets for so many other inputs.
+const OCTETS_SHARE: u64 = 2;
+
+/// Octets of stack for a seed's thread: tables go by value.
 const STACK: usize = 8 << 20;
 
 const USAGE: &str = "usage: compare [--seed N] [--inputs N]
   --seed N    one run with this seed, instead of a fixed one and one from the clock
-  --inputs N  records, datagrams and calls for each seed (200000)";
+  --inputs N  records, datagrams and calls for each seed (200000), and half as many whole records of octets";
 
 struct Options {
     seeds: Vec<u64>,
@@ -66,13 +76,16 @@ fn options() -> Option<Options> {
 
 /// All comparisons with one seed. Gives back the counts.
 fn compare_with(seed: u64, inputs: u64) -> Result<Tally, String> {
-    println!("seed {seed}: {inputs} inputs, {PROGRAMS} inputs of pending_list (again: --seed {seed})");
+    let octets = inputs / OCTETS_SHARE;
+    let others = format!("{octets} records of octets, {PROGRAMS} inputs of pending_list");
+    println!("seed {seed}: {inputs} inputs, {others} (again: --seed {seed})");
     let mut run = Run::new(seed, Tally::new());
     let mut play = || {
         for _ in 0..PROGRAMS {
             let input = program::generated(&mut run.random);
             program::compare(&mut run, &input, None)?;
         }
+        run.play_octets(octets)?;
         run.play(inputs)
     };
     play().map_err(|text: String| format!("seed {seed}: {text}"))?;
@@ -104,6 +117,7 @@ fn compare(options: &Options) -> Result<Tally, String> {
         ));
     }
     println!("self-check: {} damaged answers, each reported", selfcheck::run()?);
+    println!("flags: every octet in each of {} flags of a record", flags::compare_all()?);
     let mut run = Run::new(FIXED_SEED, Tally::new());
     program_cases::compare_named(&mut run)?;
     println!("named inputs of pending_list: {}", run.tally.programs);
@@ -142,7 +156,10 @@ fn main() -> ExitCode {
             let parts =
                 format!("{} records, {} datagrams, {} calls", t.records, t.datagrams, t.calls);
             let others = format!("{} listing rows, {} inputs of pending_list", t.rows, t.programs);
-            println!("compare: {inputs} inputs ({parts}), {others}, no difference, {seconds:.1} s");
+            let octets = format!("{} records of octets", t.octets);
+            println!(
+                "compare: {inputs} inputs ({parts}), {octets}, {others}, no difference, {seconds:.1} s"
+            );
             ExitCode::SUCCESS
         }
         Err(text) => {

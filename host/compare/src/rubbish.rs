@@ -1,7 +1,8 @@
-//! Structs whose cells hold anything. A record is laid over one of them, so that every cell it does not use is
-//! rubbish when the product is asked. Filling them cell by cell costs much, so a stock is made once and copied.
+//! Structs whose cells hold anything, and records whose octets do. A record is laid over one of them, so that every
+//! cell it does not use is rubbish when the product is asked. Filling them costs much, so a stock is made once and
+//! copied.
 
-use pruvelaccio::{Header, Key, Table};
+use pruvelaccio::{Header, Key, RecordOctets, Table, RECORD};
 
 use crate::cells::{Cell, Cells};
 use crate::convert;
@@ -9,6 +10,7 @@ use crate::random::Random;
 use crate::records::Case;
 
 pub struct Rubbish {
+    octets: Vec<RecordOctets>,
     headers: Vec<Header>,
     tables: Vec<Table>,
     keys: Vec<Key>,
@@ -17,7 +19,7 @@ pub struct Rubbish {
 /// Flags stay 0 or 1: no other octet is a flag in Rust.
 fn fill<T: Cells>(random: &mut Random) -> T {
     let mut cells = T::ZERO;
-    cells.each(&mut |cell| match cell {
+    cells.each(0, &mut |_, cell| match cell {
         Cell::Flag(flag) => *flag = random.coin(),
         Cell::Number(number) => *number = any_number(random),
         Cell::Char(character) => *character = random.next() as u8,
@@ -43,13 +45,23 @@ fn stretch(random: &mut Random) -> u32 {
     }
 }
 
+pub fn any_octets(random: &mut Random) -> RecordOctets {
+    let octets = random.octets(RECORD);
+    RecordOctets::from(<[u8; RECORD]>::try_from(octets).expect("as many"))
+}
+
 impl Rubbish {
     pub fn new(random: &mut Random) -> Rubbish {
         Rubbish {
+            octets: (0..24).map(|_| any_octets(random)).collect(),
             headers: (0..24).map(|_| fill(random)).collect(),
             tables: (0..8).map(|_| fill(random)).collect(),
             keys: (0..64).map(|_| fill(random)).collect(),
         }
+    }
+
+    pub fn octets(&self, random: &mut Random) -> &RecordOctets {
+        random.pick(&self.octets)
     }
 
     pub fn header(&self, case: &Case, random: &mut Random) -> Header {

@@ -3,11 +3,16 @@
 use std::any::Any;
 use std::panic::{catch_unwind, AssertUnwindSafe};
 
+use pruvelaccio::{RecordOctets, RECORD};
+
+use crate::cells::Places;
 use crate::damage::{self, Damage};
 use crate::datagrams;
 use crate::emit::Extra;
+use crate::fenced::{self, Fenced, Side};
 use crate::headers::{compare_both_ways, compare_datagram, compare_record};
 use crate::illformed;
+use crate::octets::{self, Scene};
 use crate::random::Random;
 use crate::records::{self, Case};
 use crate::rubbish::Rubbish;
@@ -24,10 +29,43 @@ pub fn caught<T>(work: impl FnOnce() -> Result<T, String>) -> Result<T, String> 
     catch_unwind(AssertUnwindSafe(work)).unwrap_or_else(stopped)
 }
 
+/// Where a datagram, a record and an output are lent.
+pub struct Fences {
+    pub datagram: Fenced,
+    pub record: Fenced,
+    pub out: Fenced,
+}
+
+impl Fences {
+    pub fn new() -> Fences {
+        let [datagram, record, out] = [fenced::LARGEST, RECORD, octets::ROOM].map(Fenced::new);
+        Fences { datagram, record, out }
+    }
+}
+
+pub fn side(random: &mut Random) -> Side {
+    if random.coin() {
+        Side::Front
+    } else {
+        Side::Back
+    }
+}
+
+/// The record that was put between fences.
+pub fn as_record(lent: &[u8]) -> &RecordOctets {
+    RecordOctets::lent(lent.try_into().expect("a record's octets"))
+}
+
+pub fn as_record_mut(lent: &mut [u8]) -> &mut RecordOctets {
+    RecordOctets::lent_mut(lent.try_into().expect("a record's octets"))
+}
+
 pub struct Run {
     pub random: Random,
     pub rubbish: Rubbish,
     pub damages: Vec<Damage>,
+    pub places: Places,
+    pub fences: Fences,
     pub tally: Tally,
 }
 
@@ -35,7 +73,8 @@ impl Run {
     pub fn new(seed: u64, tally: Tally) -> Run {
         let mut random = Random::new(seed);
         let rubbish = Rubbish::new(&mut random);
-        Run { random, rubbish, damages: damage::all(), tally }
+        let (places, fences) = (Places::of_a_record(), Fences::new());
+        Run { random, rubbish, damages: damage::all(), places, fences, tally }
     }
 
     /// Turns until so many inputs more were compared.
@@ -45,6 +84,18 @@ impl Run {
         while self.tally.inputs() < end {
             self.turn(turn)?;
             turn += 1;
+        }
+        Ok(())
+    }
+
+    /// So many whole records of octets, by turns of either kind. A scene serves some of them.
+    pub fn play_octets(&mut self, records: u64) -> Result<(), String> {
+        let mut scene = Scene::new(self);
+        for turn in 0..records {
+            if turn % 64 == 63 {
+                scene = Scene::new(self);
+            }
+            octets::compare_turn(self, &scene, turn)?;
         }
         Ok(())
     }

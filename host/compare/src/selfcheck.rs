@@ -1,13 +1,17 @@
 //! Whether the comparison can fail at all: answers that were damaged on purpose have to be reported, and those left
 //! alone must not be.
 
-use pruvelaccio::raw::{ReadAnswer, SizeAnswer, TableAnswer};
-use pruvelaccio::{Header, Table};
+use std::mem::offset_of;
+
+use pruvelaccio::raw::{SizeAnswer, TableAnswer};
+use pruvelaccio::{Header, RecordOctets, Table};
 use reference::Board;
 
 use crate::cells::Cells;
 use crate::convert;
+use crate::fenced::{Fenced, Side};
 use crate::headers::{same_octets, same_reading, same_size};
+use crate::laid;
 use crate::pool::{self, Pool};
 use crate::program::same_output;
 use crate::random::Random;
@@ -20,7 +24,7 @@ const DATAGRAM: [u8; 17] =
 
 /// How many damaged answers were tried; an error names one that passed.
 pub fn run() -> Result<usize, String> {
-    let tried = [readings(), refused_readings(), sizes(), tables(), counts()];
+    let tried = [readings(), refused_readings(), sizes(), tables(), fences(), counts()];
     let mut damaged = 0;
     for (name, reported, outcome) in tried.into_iter().flatten() {
         if outcome.is_err() != reported {
@@ -40,43 +44,73 @@ fn with<T: Copy>(from: &T, change: fn(&mut T)) -> T {
     answer
 }
 
+/// Octets that were there before a reading.
+const BEFORE: [u8; pruvelaccio::RECORD] = [0xA5; pruvelaccio::RECORD];
+
+/// The record with an octet changed at an offset.
+fn spoiled(record: &RecordOctets, offset: usize) -> RecordOctets {
+    let mut changed = *record;
+    changed.octets_mut()[offset] ^= 1;
+    changed
+}
+
 fn readings() -> Vec<Tried> {
     let plain = reference::read(&DATAGRAM);
-    let mut header = Header::ZERO;
-    plain.iter().for_each(|(record, _)| convert::header(record, &mut header, 0));
-    let good = ReadAnswer { number: 0, place: 0, length: 16, header };
-    let of = |change| same_reading(&plain, &with(&good, change));
-    let deep = |change: fn(&mut Header)| {
-        let header = with(&header, change);
-        same_reading(&plain, &ReadAnswer { header, ..good })
-    };
+    let before = RecordOctets::from(BEFORE);
+    let after = plain.as_ref().map_or(before, |(record, _)| laid::alone(record));
+    let good = SizeAnswer { number: 0, place: 0, length: 16 };
+    let of = |change| same_reading(&plain, &before, &with(&good, change), &after);
+    let at = |offset| same_reading(&plain, &before, &good, &spoiled(&after, offset));
+    let last = pruvelaccio::RECORD - 1;
     vec![
         ("a reading", false, of(|_| {})),
         ("its number", true, of(|a| a.number = 1)),
         ("its place", true, of(|a| a.place = 1)),
         ("its length", true, of(|a| a.length = 15)),
-        ("a used cell", true, deep(|h| h.blocks.list[0].times.origin.stamp.dtg.time.minute = 11)),
-        ("an unused number", true, deep(|h| h.blocks.list[15].format.umf = 1)),
-        (
-            "an unused flag",
-            true,
-            deep(|h| h.front.information.addresses.list[2].urn.present = true),
-        ),
-        ("an unused character", true, deep(|h| h.blocks.list[0].format.file.text.chars[63] = 1)),
+        ("a used number", true, at(offset_of!(Header, front.originator.address.urn.value))),
+        ("a used flag", true, at(offset_of!(Header, front.originator.present))),
+        ("an unused flag", true, at(offset_of!(Header, front.information.present))),
+        ("an unused character", true, at(offset_of!(Header, front.originator.address.name.text))),
+        ("an octet between the cells", true, at(offset_of!(Header, sized) + 3)),
+        ("the last octet", true, at(last)),
+        ("the record as it was", true, same_reading(&plain, &before, &good, &before)),
     ]
 }
 
 /// Three octets end inside the URN, which begins at bit 7.
 fn refused_readings() -> Vec<Tried> {
     let plain = reference::read(&DATAGRAM[..3]);
-    let good = ReadAnswer { number: 1, place: 7, length: 0, header: Header::ZERO };
-    let of = |change| same_reading(&plain, &with(&good, change));
+    let before = RecordOctets::from(BEFORE);
+    let good = SizeAnswer { number: 1, place: 7, length: 0 };
+    let of = |change| same_reading(&plain, &before, &with(&good, change), &before);
+    let at = |offset| same_reading(&plain, &before, &good, &spoiled(&before, offset));
+    let cleared = same_reading(&plain, &before, &good, &RecordOctets::zero());
     vec![
         ("a refused reading", false, of(|_| {})),
         ("its place too far", true, of(|a| a.place = 8)),
         ("another refusal", true, of(|a| a.number = 3)),
         ("a length beside it", true, of(|a| a.length = 3)),
-        ("a record beside it", true, of(|a| a.header.front.version = 2)),
+        ("the first octet beside it", true, at(0)),
+        ("an octet between the cells beside it", true, at(offset_of!(Header, sized) + 1)),
+        ("a cleared record beside it", true, cleared),
+    ]
+}
+
+/// Octets beside those that are lent, at either end.
+fn fences() -> Vec<Tried> {
+    let beside = |side, offset: isize| {
+        let mut fenced = Fenced::new(8);
+        fenced.hold(&[1; 8], side);
+        let octet = fenced.lent_mut().as_mut_ptr().wrapping_offset(offset);
+        // SAFETY: the octet is one of the fenced page, of which eight are lent.
+        unsafe { *octet ^= 1 };
+        fenced.intact()
+    };
+    vec![
+        ("a lent octet at the front", false, beside(Side::Front, 0)),
+        ("a lent octet at the back", false, beside(Side::Back, 7)),
+        ("an octet behind those at the front", true, beside(Side::Front, 8)),
+        ("the octet in front of those at the back", true, beside(Side::Back, -1)),
     ]
 }
 
@@ -151,7 +185,7 @@ mod tests {
     /// Changes the k-th cell; false behind the last one.
     fn change<T: Cells>(cells: &mut T, k: usize) -> bool {
         let mut i = 0;
-        cells.each(&mut |cell| {
+        cells.each(0, &mut |_, cell| {
             if i == k {
                 match cell {
                     Cell::Flag(flag) => *flag = !*flag,
@@ -210,6 +244,47 @@ mod tests {
             let table = rubbish.table(&plain, &mut random);
             assert_eq!(convert::taken_table(&table), Some(plain));
         }
+    }
+
+    /// What is laid into octets comes back as it was, over zeros and over rubbish; and over zeros the octets are those
+    /// of the wrapper's struct.
+    #[test]
+    fn records_there_and_back() {
+        let mut random = Random::new(5);
+        for _ in 0..2000 {
+            let record = crate::records::case(&mut random).record;
+            let alone = laid::alone(&record);
+            assert_eq!(crate::taken::header(&alone), record);
+            let mut header = Header::ZERO;
+            convert::header(&record, &mut header, 0);
+            assert!(alone == RecordOctets::from(&header));
+            let mut over = crate::rubbish::any_octets(&mut random);
+            laid::over(&record, &mut over);
+            assert_eq!(crate::taken::header(&over), record);
+        }
+    }
+
+    /// A count that passes its array is held as one entry too many, and that is enough to be refused.
+    #[test]
+    fn counts_that_pass_their_arrays() {
+        let record = RecordOctets::from([0x02; pruvelaccio::RECORD]);
+        let header = crate::taken::header(&record);
+        assert_eq!(header.version, 0x0202_0202);
+        assert_eq!(header.blocks.len(), 17);
+        assert_eq!(header.recipients.map(|list| list.len()), Some(17));
+        let block = &header.blocks[16];
+        assert_eq!(block.references.as_ref().map(Vec::len), Some(5));
+        assert_eq!(block.file_name.as_ref().map(Vec::len), Some(65));
+    }
+
+    #[test]
+    fn every_octet_of_a_record_is_of_one_cell_or_none() {
+        let places = crate::cells::Places::of_a_record();
+        let mut held = [0; pruvelaccio::RECORD];
+        places.flags.iter().chain(&places.characters).for_each(|at| held[*at] += 1);
+        places.numbers.iter().for_each(|at| (*at..at + 4).for_each(|i| held[i] += 1));
+        assert!(held.iter().all(|times| *times <= 1));
+        assert_eq!(places.flags.len(), 7 + 32 * 2 + 16 * 31);
     }
 
     /// Each damage gives its own refusal by the second program alone.

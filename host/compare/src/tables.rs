@@ -104,7 +104,7 @@ fn start(run: &mut Run, pool: &Pool) -> Result<Pair, String> {
 }
 
 /// Mostly the block that is meant; otherwise none that there is.
-fn block_number(blocks: usize, random: &mut Random) -> u32 {
+pub fn block_number(blocks: usize, random: &mut Random) -> u32 {
     match random.below(32) {
         0 => 0,
         1 => blocks as u32 + 1,
@@ -114,7 +114,7 @@ fn block_number(blocks: usize, random: &mut Random) -> u32 {
 }
 
 /// Mostly a key that a row has, and mostly an answerer who owes something there.
-fn receipt(pool: &Pool, plain: &Board, random: &mut Random) -> Case {
+pub fn receipt(pool: &Pool, plain: &Board, random: &mut Random) -> Case {
     if plain.rows.is_empty() || random.one_in(6) {
         return pool::receipt(pool.key(random), pool.address(random), random);
     }

@@ -1,5 +1,7 @@
 //! How often each call gave each refusal, and what a run has to have seen.
 
+use std::ops::Range;
+
 /// The calls of the product that can be refused.
 #[derive(Clone, Copy)]
 pub enum Kind {
@@ -10,17 +12,31 @@ pub enum Kind {
     Receipt,
     Release,
     ListRow,
+    /// The calls on whole records of octets are counted by themselves.
+    OctetsCheck,
+    OctetsWrite,
+    OctetsPost,
+    OctetsReceipt,
 }
 
+const CHECK: &[u32] = &[2, 3, 4, 5, 6, 8, 10, 12];
+const WRITE: &[u32] = &[2, 3, 4, 5, 6, 8, 10, 11, 12];
+const POST: &[u32] = &[2, 3, 4, 5, 6, 8, 10, 12, 20, 21, 22, 23, 29, 30];
+const RECEIPT: &[u32] = &[2, 3, 4, 5, 6, 8, 10, 12, 24, 25, 26, 27, 28, 29, 30];
+
 /// Each call's name, and the refusals that it can give.
-const KINDS: [(&str, &[u32]); 7] = [
+const KINDS: [(&str, &[u32]); 11] = [
     ("read", &[1, 2, 3, 4, 5, 6, 7, 8, 9, 10, 12]),
-    ("check", &[2, 3, 4, 5, 6, 8, 10, 12]),
-    ("write", &[2, 3, 4, 5, 6, 8, 10, 11, 12]),
-    ("post", &[2, 3, 4, 5, 6, 8, 10, 12, 20, 21, 22, 23, 29, 30]),
-    ("receipt", &[2, 3, 4, 5, 6, 8, 10, 12, 24, 25, 26, 27, 28, 29, 30]),
+    ("check", CHECK),
+    ("write", WRITE),
+    ("post", POST),
+    ("receipt", RECEIPT),
     ("release", &[3, 4, 6, 26, 30]),
     ("list_row", &[11, 30]),
+    ("check_octets", CHECK),
+    ("write_octets", WRITE),
+    ("post_octets", POST),
+    ("receipt_octets", RECEIPT),
 ];
 
 /// 0 stands for done.
@@ -30,8 +46,10 @@ const NUMBERS: [u32; 24] =
 pub const LEAST: u64 = 50;
 
 pub struct Tally {
-    seen: [[u64; 31]; 7],
+    seen: [[u64; 31]; KINDS.len()],
     pub records: u64,
+    /// Whole records of octets.
+    pub octets: u64,
     pub datagrams: u64,
     pub calls: u64,
     pub rows: u64,
@@ -40,7 +58,8 @@ pub struct Tally {
 
 impl Tally {
     pub fn new() -> Tally {
-        Tally { seen: [[0; 31]; 7], records: 0, datagrams: 0, calls: 0, rows: 0, programs: 0 }
+        let seen = [[0; 31]; KINDS.len()];
+        Tally { seen, records: 0, octets: 0, datagrams: 0, calls: 0, rows: 0, programs: 0 }
     }
 
     /// Adds another run's counts.
@@ -49,6 +68,7 @@ impl Tally {
             sums.iter_mut().zip(seen).for_each(|(sum, n)| *sum += n);
         }
         self.records += other.records;
+        self.octets += other.octets;
         self.datagrams += other.datagrams;
         self.calls += other.calls;
         self.rows += other.rows;
@@ -69,35 +89,38 @@ impl Tally {
         Ok(())
     }
 
+    /// The calls on records as octets behind the others, in a table of their own.
     pub fn print(&self) {
-        let names: String = KINDS.iter().map(|(name, _)| format!("{name:>10}")).collect();
-        println!("{:<8}{names}{:>10}", "refusal", "all");
-        for number in NUMBERS {
-            self.print_line(number);
+        let octets = Kind::OctetsCheck as usize;
+        for (kinds, wide) in [(0..octets, 10), (octets..KINDS.len(), 16)] {
+            let names = KINDS[kinds.clone()].iter().map(|(name, _)| format!("{name:>wide$}"));
+            println!("{:<8}{}{:>wide$}", "refusal", names.collect::<String>(), "all");
+            NUMBERS.iter().for_each(|number| self.print_line(*number, kinds.clone(), wide));
         }
     }
 
-    fn print_line(&self, number: u32) {
+    fn print_line(&self, number: u32, kinds: Range<usize>, wide: usize) {
         let label = if number == 0 { "done".to_string() } else { number.to_string() };
         let mut line = format!("{label:<8}");
         let mut all = 0;
-        for (seen, (_, possible)) in self.seen.iter().zip(KINDS) {
+        for (seen, (_, possible)) in self.seen[kinds.clone()].iter().zip(&KINDS[kinds]) {
             all += seen[number as usize];
             if number == 0 || possible.contains(&number) {
-                line += &format!("{:>10}", seen[number as usize]);
+                line += &format!("{:>wide$}", seen[number as usize]);
             } else {
-                line += &format!("{:>10}", "-");
+                line += &format!("{:>wide$}", "-");
             }
         }
-        println!("{line}{all:>10}");
+        println!("{line}{all:>wide$}");
     }
 
-    /// Every refusal that came up too seldom, call by call.
+    /// Done and every refusal that came up too seldom, call by call.
     pub fn lacking(&self) -> Vec<String> {
         let mut lacking = Vec::new();
         for (seen, (name, possible)) in self.seen.iter().zip(KINDS) {
-            for number in possible.iter().filter(|n| seen[**n as usize] < LEAST) {
-                lacking.push(format!("{name} {number}: {} times", seen[*number as usize]));
+            let numbers = [0].into_iter().chain(possible.iter().copied());
+            for number in numbers.filter(|n| seen[*n as usize] < LEAST) {
+                lacking.push(format!("{name} {number}: {} times", seen[number as usize]));
             }
         }
         lacking

@@ -1,16 +1,9 @@
-//! The exported functions as the static library has them: structs by value, a slice as a pointer and a length. The safe
-//! calls of this crate stand over them; a host needs them only for what a safe call leaves out beside a refusal.
+//! The exported functions as the static library has them: a record as a pointer to its octets, the table and a key by
+//! value, a slice as a pointer and a length. The safe calls of this crate stand over them; a host needs them only for
+//! what a safe call leaves out beside a refusal.
 
-use crate::record::{Header, Key, Table};
-
-#[repr(C)]
-#[derive(Clone, Copy)]
-pub struct ReadAnswer {
-    pub number: u32,
-    pub place: usize,
-    pub length: usize,
-    pub header: Header,
-}
+use crate::octets::RECORD;
+use crate::record::{Key, Table};
 
 #[repr(C)]
 #[derive(Clone, Copy, Debug, PartialEq, Eq)]
@@ -29,11 +22,15 @@ pub struct TableAnswer {
 }
 
 extern "C" {
-    pub fn pruvelaccio_read_value(datagram: *const u8, length: usize) -> ReadAnswer;
+    pub fn pruvelaccio_read_octets(
+        datagram: *const u8,
+        length: usize,
+        header: *mut [u8; RECORD],
+    ) -> SizeAnswer;
     pub fn pruvelaccio_data_start(datagram: *const u8, length: usize) -> usize;
-    pub fn pruvelaccio_check_value(header: Header, count: usize) -> SizeAnswer;
-    pub fn pruvelaccio_write_value(
-        header: Header,
+    pub fn pruvelaccio_check_octets(header: *const [u8; RECORD], count: usize) -> SizeAnswer;
+    pub fn pruvelaccio_write_octets(
+        header: *const [u8; RECORD],
         count: usize,
         out: *mut u8,
         room: usize,
@@ -41,13 +38,13 @@ extern "C" {
     pub fn pruvelaccio_empty_value() -> Table;
     pub fn pruvelaccio_post_value(
         table: Table,
-        header: Header,
+        header: *const [u8; RECORD],
         number: u32,
         count: usize,
     ) -> TableAnswer;
     pub fn pruvelaccio_receipt_value(
         table: Table,
-        header: Header,
+        header: *const [u8; RECORD],
         number: u32,
         count: usize,
     ) -> TableAnswer;

@@ -1,4 +1,4 @@
-//! The structs of this crate, those of the C header and those of the library are laid out alike.
+//! The structs of this crate, those of the C header and the octets that the library reads are laid out alike.
 
 mod support;
 
@@ -7,7 +7,7 @@ use std::path::{Path, PathBuf};
 use std::process::Command;
 
 use pruvelaccio::*;
-use pruvelaccio::raw::{ReadAnswer, SizeAnswer, TableAnswer};
+use pruvelaccio::raw::{SizeAnswer, TableAnswer};
 use support::*;
 
 /// `OptionalNumber` is `optional_number` in C.
@@ -38,7 +38,6 @@ macro_rules! layout {
 
 fn layout_in_rust() -> Vec<String> {
     let answers = layout! {
-        ReadAnswer { number, place, length, header }
         SizeAnswer { number, place, length }
         TableAnswer { number, place, table }
     };
@@ -76,6 +75,30 @@ fn sizes_and_offsets_are_those_of_the_c_header() {
         assert_eq!(ours, theirs);
     }
     assert_eq!(rust.len(), c.lines().count());
+}
+
+/// What include/pruvelaccio_layout.h, made from the one table of structs that the library is made from, says of a
+/// record: sizes and offsets, in the words of `layout_in_rust`.
+fn layout_of_a_record() -> Vec<String> {
+    let path = repository().join("include/pruvelaccio_layout.h");
+    let text = std::fs::read_to_string(path).expect("the layout");
+    let said = |line: &str| {
+        let (kind, rest) = line.strip_suffix(");")?.split_once('(')?;
+        let words: Vec<&str> = rest.split(", ").collect();
+        match (kind, &words[..]) {
+            ("PRUVELACCIO_STRUCT", [name, size]) => Some(format!("{name} {size}")),
+            ("PRUVELACCIO_FIELD", [name, field, at, _]) => Some(format!("{name}.{field} {at}")),
+            _ => None,
+        }
+    };
+    text.lines().filter_map(said).collect()
+}
+
+#[test]
+fn sizes_and_offsets_of_a_record_are_those_of_the_layout() {
+    let (rust, layout) = (layout_in_rust(), layout_of_a_record());
+    assert_eq!(rust[..layout.len()], layout);
+    assert!(layout.contains(&format!("header {RECORD}")));
 }
 
 #[test]

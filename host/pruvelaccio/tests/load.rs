@@ -6,8 +6,8 @@ use std::mem::{offset_of, size_of};
 
 use pruvelaccio::*;
 
-/// The offsets of all flags: every octet is 2, and each flag that is refused is then set to 1. The octets that stay 2
-/// are no flags.
+/// The offsets of all flags that are tested: every octet is 2, and each flag that is refused is then set to 1. The
+/// octets that stay 2 are no flags.
 fn flags(size: usize, load: fn(&[u8]) -> Result<(), LoadFault>) -> Vec<usize> {
     let mut octets = vec![2; size];
     let mut offsets = Vec::new();
@@ -21,8 +21,11 @@ fn flags(size: usize, load: fn(&[u8]) -> Result<(), LoadFault>) -> Vec<usize> {
     offsets
 }
 
+/// The offsets of a record's flags, which are not tested: of octets that are all 2 a flag becomes 1, a number and a
+/// character stay, and what lies between the cells becomes 0.
 fn flags_of_header() -> Vec<usize> {
-    flags(size_of::<Header>(), |octets| Header::from_octets(octets).map(|_| ()))
+    let octets = Header::from_octets(&[2; RECORD]).expect("any octets").to_octets();
+    (0..RECORD).filter(|i| octets[*i] == 1).collect()
 }
 
 fn flags_of_table() -> Vec<usize> {
@@ -34,7 +37,7 @@ fn flags_of_key() -> Vec<usize> {
 }
 
 #[test]
-fn every_flag_is_tested_once_and_in_order() {
+fn every_flag_is_named_once_and_in_order() {
     // 7 of the header's own, 2 in each addressee, 31 in each block; 38 in each row
     for (offsets, count) in [
         (flags_of_header(), 7 + 32 * 2 + 16 * 31),
@@ -46,14 +49,10 @@ fn every_flag_is_tested_once_and_in_order() {
     }
 }
 
-#[test]
-fn each_kind_of_flag_of_a_header_is_refused() {
-    let tested = flags_of_header();
-    let block = offset_of!(Header, blocks) + offset_of!(Blocks, list) + 15 * size_of::<Block>();
-    let reference =
-        block + offset_of!(Block, references.references.list) + 3 * size_of::<Reference>();
+/// The last flag of each kind before the blocks, by its name.
+fn flags_of_front() -> Vec<usize> {
     let addressee = 15 * size_of::<Address>();
-    for offset in [
+    vec![
         offset_of!(Header, front.compression.present),
         offset_of!(Header, front.originator.present),
         offset_of!(Header, front.originator.address.urn.present),
@@ -67,30 +66,58 @@ fn each_kind_of_flag_of_a_header_is_refused() {
             + addressee
             + offset_of!(Address, name.present),
         offset_of!(Header, sized),
-        block + offset_of!(Block, format.version.present),
-        block + offset_of!(Block, format.identity.present),
-        block + offset_of!(Block, format.identity.identity.subtype.present),
-        block + offset_of!(Block, format.file.present),
-        block + offset_of!(Block, handling.size.present),
-        block + offset_of!(Block, handling.marking.present),
-        block + offset_of!(Block, times.origin.present),
-        block + offset_of!(Block, times.origin.stamp.extension.present),
-        block + offset_of!(Block, times.perish.present),
-        block + offset_of!(Block, times.requests.present),
-        block + offset_of!(Block, times.requests.requests.machine),
-        block + offset_of!(Block, times.requests.requests.acknowledge),
-        block + offset_of!(Block, times.requests.requests.reply),
-        block + offset_of!(Block, response.present),
-        block + offset_of!(Block, response.response.stamp.extension.present),
-        block + offset_of!(Block, response.response.compliance.cantco.present),
-        block + offset_of!(Block, response.response.compliance.cantpro.present),
-        block + offset_of!(Block, response.response.amplification.present),
-        block + offset_of!(Block, references.present),
+    ]
+}
+
+/// The same of a block, counted from its own first octet.
+fn flags_of_block() -> Vec<usize> {
+    let reference = offset_of!(Block, references.references.list) + 3 * size_of::<Reference>();
+    vec![
+        offset_of!(Block, format.version.present),
+        offset_of!(Block, format.identity.present),
+        offset_of!(Block, format.identity.identity.subtype.present),
+        offset_of!(Block, format.file.present),
+        offset_of!(Block, handling.size.present),
+        offset_of!(Block, handling.marking.present),
+        offset_of!(Block, times.origin.present),
+        offset_of!(Block, times.origin.stamp.extension.present),
+        offset_of!(Block, times.perish.present),
+        offset_of!(Block, times.requests.present),
+        offset_of!(Block, times.requests.requests.machine),
+        offset_of!(Block, times.requests.requests.acknowledge),
+        offset_of!(Block, times.requests.requests.reply),
+        offset_of!(Block, response.present),
+        offset_of!(Block, response.response.stamp.extension.present),
+        offset_of!(Block, response.response.compliance.cantco.present),
+        offset_of!(Block, response.response.compliance.cantpro.present),
+        offset_of!(Block, response.response.amplification.present),
+        offset_of!(Block, references.present),
         reference + offset_of!(Reference, address.urn.present),
         reference + offset_of!(Reference, address.name.present),
         reference + offset_of!(Reference, stamp.extension.present),
-    ] {
-        assert!(tested.contains(&offset), "offset {offset}");
+    ]
+}
+
+#[test]
+fn each_kind_of_flag_of_a_header_is_set_unless_0() {
+    let flags = flags_of_header();
+    let block = offset_of!(Header, blocks.list) + 15 * size_of::<Block>();
+    let last = flags_of_block().into_iter().map(|offset| block + offset);
+    for offset in flags_of_front().into_iter().chain(last) {
+        assert!(flags.contains(&offset), "offset {offset}");
+    }
+}
+
+#[test]
+fn every_octet_but_0_sets_a_flag_of_a_header() {
+    let mut octets = [0; RECORD];
+    for offset in flags_of_header() {
+        for octet in 0..=255 {
+            octets[offset] = octet;
+            let loaded = Header::from(RecordOctets::lent(&octets)).to_octets();
+            assert_eq!(loaded[offset], u8::from(octet != 0), "offset {offset}");
+        }
+        octets[offset] = 0;
     }
 }
 
@@ -128,6 +155,7 @@ fn another_size_is_refused() {
 fn what_is_saved_is_loaded_again() {
     for header in [support::message(), support::receipts()] {
         let octets = header.to_octets();
+        assert_eq!(RecordOctets::from(&header).octets()[..], octets);
         let loaded = Header::from_octets(&octets).expect("a saved header");
         assert_eq!(loaded.to_octets(), octets);
         assert_eq!(format!("{loaded:?}"), format!("{header:?}"));

@@ -4,49 +4,64 @@ use mathlib.Core.Path.{_≡_, refl, ap, sym, _∙_, subst}
 use Prim.Native.Nat.{ℕ, _<_}
 use lib.Dec.{lit<}
 use borrow.Author.Tests.{not-true, not-false}
-use Rattle.writer.proofs.Parts.{blocks-legal}
-use Rattle.writer.proofs.Ways.{valid-fields}
-use Rattle.codec.specs.Codec.{viewed}
-use Rattle.codec.proofs.ListEnds.{count-most}
-use Rattle.header.specs.Zero.{noBlock}
-use Rattle.header.specs.Table.{block, blocks}
-use Rattle.writer.specs.Writing.{faultOf}
 use Rattle.arguments.specs.Arguments.{hasBlock, blockAt, asks, someRecipient, postingFault}
+use Rattle.record_octets.specs.Record.{headerIn}
+use Rattle.writer.specs.Writing.{faultOf}
 use Rattle.arguments.specs.Told.{pendingNo, answerNo, answerPlace}
-use Rattle.arguments.proofs.Told.{written-no, written-fine, written-bad, at-record, at-block, at-group, at-addressees, at-none}
+use Rattle.arguments.proofs.Told.{written-no, written-fine, written-bad, block-named, at-record, at-block, at-group, at-addressees, at-none}
 use Rattle.arguments.proofs.check_posting.Statement.{statement}
 use Rattle.arguments.proofs.check_posting.Tie as tie
 
 returns : tie.Need-returns
 unfolding postingFault
 returns c =
-    let s = c .before .before .before .before in
-    let w = (written-no (c .before .before .before .before .args .h) (c .before .before .before .before .args .count .0) _ (c .before .before .before .check .ensures)) in
-    (c .by-record .ensures .0 ∙ w ∙ at-record (faultOf (c .before .before .before .before .args .h) (c .before .before .before .before .args .count .0)) (hasBlock (c .before .before .before .before .args .h) (c .before .before .before .before .args .number)) (asks (blockAt (c .before .before .before .before .args .h) (c .before .before .before .before .args .number))) (someRecipient (c .before .before .before .before .args .h)) 20 21 (subst (λ (k : ℕ). 0 < k) w (written-bad _ (c .before .before .match .keys2))), c .by-record .ensures .1)
+    let h = headerIn (c .before .before .before .before .before .args .h .now) in
+    let n = c .before .before .before .before .before .args .number in
+    let m = c .before .before .before .before .before .args .count .0 in
+    let w = written-no h m _ (c .before .before .before .check .ensures) in
+    (c .by-record .ensures .0 ∙ w ∙ at-record (faultOf h m) (hasBlock h n) (asks (blockAt h n)) (someRecipient h) 20 21 (subst (λ (k : ℕ). 0 < k) w (written-bad _ (c .before .before .match .keys2))), c .by-record .ensures .1)
 
 returns-2 : tie.Need-returns-2
 unfolding postingFault pendingNo
-returns-2 c = (c .refusal .ensures .0 ∙ at-block (faultOf (c .before .before .before .before .before .before .args .h) (c .before .before .before .before .before .before .args .count .0)) (hasBlock (c .before .before .before .before .before .before .args .h) (c .before .before .before .before .before .before .args .number)) (asks (blockAt (c .before .before .before .before .before .before .args .h) (c .before .before .before .before .before .before .args .number))) (someRecipient (c .before .before .before .before .before .before .args .h)) 20 21 (sym (written-no (c .before .before .before .before .before .before .args .h) (c .before .before .before .before .before .before .args .count .0) _ (c .before .before .before .before .before .check .ensures)) ∙ sym (written-fine _ (c .before .before .before .before .match .keys1))) (sym (c .before .before .has-block .ensures) ∙ not-true _ (c .before .if1 .taken)), c .refusal .ensures .1)
-
--- the block at hand is the block of that number
-named : (c : tie.Else1) → c .before .before .before .before .before .args .block ≡ blockAt (c .before .before .before .before .before .args .h) (c .before .before .before .before .before .args .number)
-unfolding blocks viewed
-named c =
-    let s = c .before .before .before .before .before in
-    let v = valid-fields (c .before .before .before .before .before .args .h) (c .before .before .before .before .before .args .count .0) (sym (written-no (c .before .before .before .before .before .args .h) (c .before .before .before .before .before .args .count .0) _ (c .before .before .before .before .check .ensures)) ∙ sym (written-fine _ (c .before .before .before .match .keys1))) in
-    s .pre (sym (c .before .has-block .ensures) ∙ not-false _ (c .if1 .left)) (count-most noBlock block 16 15 _ _ (blocks-legal (s .args .h) v))
+returns-2 c =
+    let h = headerIn (c .before .before .before .before .before .before .before .before .args .h .now) in
+    let n = c .before .before .before .before .before .before .before .before .args .number in
+    let m = c .before .before .before .before .before .before .before .before .args .count .0 in
+    let fine = sym (written-no h m _ (c .before .before .before .before .before .before .check .ensures)) ∙ sym (written-fine _ (c .before .before .before .before .before .match .keys1)) in
+    (c .refusal .ensures .0 ∙ at-block (faultOf h m) (hasBlock h n) (asks (blockAt h n)) (someRecipient h) 20 21 fine (sym (c .before .before .has-block .ensures) ∙ not-true _ (c .before .if1 .taken)), c .refusal .ensures .1)
 
 returns-3 : tie.Need-returns-3
 unfolding postingFault pendingNo
-returns-3 c = (c .refusal2 .ensures .0 ∙ at-group (faultOf (c .before .before .before .before .before .before .before .before .args .h) (c .before .before .before .before .before .before .before .before .args .count .0)) (hasBlock (c .before .before .before .before .before .before .before .before .args .h) (c .before .before .before .before .before .before .before .before .args .number)) (asks (blockAt (c .before .before .before .before .before .before .before .before .args .h) (c .before .before .before .before .before .before .before .before .args .number))) (someRecipient (c .before .before .before .before .before .before .before .before .args .h)) 20 21 (sym (written-no (c .before .before .before .before .before .before .before .before .args .h) (c .before .before .before .before .before .before .before .before .args .count .0) _ (c .before .before .before .before .before .before .before .check .ensures)) ∙ sym (written-fine _ (c .before .before .before .before .before .before .match .keys1))) (sym (c .before .before .before .before .has-block .ensures) ∙ not-false _ (c .before .before .before .if1 .left)) (lit< tt) (sym (c .before .before .asks-any .ensures ∙ ap asks (named (c .before .before .before))) ∙ not-true _ (c .before .if2 .taken)), c .refusal2 .ensures .1)
+returns-3 c =
+    let h = headerIn (c .before .before .before .before .before .before .before .before .before .before .args .h .now) in
+    let n = c .before .before .before .before .before .before .before .before .before .before .args .number in
+    let m = c .before .before .before .before .before .before .before .before .before .before .args .count .0 in
+    let fine = sym (written-no h m _ (c .before .before .before .before .before .before .before .before .check .ensures)) ∙ sym (written-fine _ (c .before .before .before .before .before .before .before .match .keys1)) in
+    let there = sym (c .before .before .before .before .has-block .ensures) ∙ not-false _ (c .before .before .before .if1 .left) in
+    let same = c .before .before .asks-any .ensures ∙ ap asks (block-named h n m _ fine there (c .before .before .before .before .before .before .before .before .before .before .pre .1)) in
+    (c .refusal2 .ensures .0 ∙ at-group (faultOf h m) (hasBlock h n) (asks (blockAt h n)) (someRecipient h) 20 21 fine there (lit< tt) (sym same ∙ not-true _ (c .before .if2 .taken)), c .refusal2 .ensures .1)
 
 returns-4 : tie.Need-returns-4
 unfolding postingFault pendingNo
-returns-4 c = (c .refusal3 .ensures .0 ∙ at-addressees (faultOf (c .before .before .before .before .before .before .before .before .before .before .args .h) (c .before .before .before .before .before .before .before .before .before .before .args .count .0)) (hasBlock (c .before .before .before .before .before .before .before .before .before .before .args .h) (c .before .before .before .before .before .before .before .before .before .before .args .number)) (asks (blockAt (c .before .before .before .before .before .before .before .before .before .before .args .h) (c .before .before .before .before .before .before .before .before .before .before .args .number))) (someRecipient (c .before .before .before .before .before .before .before .before .before .before .args .h)) 20 21 (sym (written-no (c .before .before .before .before .before .before .before .before .before .before .args .h) (c .before .before .before .before .before .before .before .before .before .before .args .count .0) _ (c .before .before .before .before .before .before .before .before .before .check .ensures)) ∙ sym (written-fine _ (c .before .before .before .before .before .before .before .before .match .keys1))) (sym (c .before .before .before .before .before .before .has-block .ensures) ∙ not-false _ (c .before .before .before .before .before .if1 .left)) (sym (c .before .before .before .before .asks-any .ensures ∙ ap asks (named (c .before .before .before .before .before))) ∙ not-false _ (c .before .before .before .if2 .left)) (sym (c .before .before .some-recipient .ensures) ∙ not-true _ (c .before .if3 .taken)), c .refusal3 .ensures .1)
+returns-4 c =
+    let h = headerIn (c .before .before .before .before .before .before .before .before .before .before .before .before .before .args .h .now) in
+    let n = c .before .before .before .before .before .before .before .before .before .before .before .before .before .args .number in
+    let m = c .before .before .before .before .before .before .before .before .before .before .before .before .before .args .count .0 in
+    let fine = sym (written-no h m _ (c .before .before .before .before .before .before .before .before .before .before .before .check .ensures)) ∙ sym (written-fine _ (c .before .before .before .before .before .before .before .before .before .before .match .keys1)) in
+    let there = sym (c .before .before .before .before .before .before .before .has-block .ensures) ∙ not-false _ (c .before .before .before .before .before .before .if1 .left) in
+    let same = c .before .before .before .before .before .asks-any .ensures ∙ ap asks (block-named h n m _ fine there (c .before .before .before .before .before .before .before .before .before .before .before .before .before .pre .1)) in
+    (c .refusal3 .ensures .0 ∙ at-addressees (faultOf h m) (hasBlock h n) (asks (blockAt h n)) (someRecipient h) 20 21 fine there (sym same ∙ not-false _ (c .before .before .before .before .if2 .left)) (sym (c .before .before .some-recipient .ensures) ∙ not-true _ (c .before .if3 .taken)), c .refusal3 .ensures .1)
 
 returns-5 : tie.Need-returns-5
 unfolding postingFault answerNo answerPlace
-returns-5 c = (at-none (faultOf (c .before .before .before .before .before .before .before .before .before .args .h) (c .before .before .before .before .before .before .before .before .before .args .count .0)) (hasBlock (c .before .before .before .before .before .before .before .before .before .args .h) (c .before .before .before .before .before .before .before .before .before .args .number)) (asks (blockAt (c .before .before .before .before .before .before .before .before .before .args .h) (c .before .before .before .before .before .before .before .before .before .args .number))) (someRecipient (c .before .before .before .before .before .before .before .before .before .args .h)) 20 21 (sym (written-no (c .before .before .before .before .before .before .before .before .before .args .h) (c .before .before .before .before .before .before .before .before .before .args .count .0) _ (c .before .before .before .before .before .before .before .before .check .ensures)) ∙ sym (written-fine _ (c .before .before .before .before .before .before .before .match .keys1))) (sym (c .before .before .before .before .before .has-block .ensures) ∙ not-false _ (c .before .before .before .before .if1 .left)) (sym (c .before .before .before .asks-any .ensures ∙ ap asks (named (c .before .before .before .before))) ∙ not-false _ (c .before .before .if2 .left)) (sym (c .before .some-recipient .ensures) ∙ not-false _ (c .if3 .left)), refl)
+returns-5 c =
+    let h = headerIn (c .before .before .before .before .before .before .before .before .before .before .before .before .args .h .now) in
+    let n = c .before .before .before .before .before .before .before .before .before .before .before .before .args .number in
+    let m = c .before .before .before .before .before .before .before .before .before .before .before .before .args .count .0 in
+    let fine = sym (written-no h m _ (c .before .before .before .before .before .before .before .before .before .before .check .ensures)) ∙ sym (written-fine _ (c .before .before .before .before .before .before .before .before .before .match .keys1)) in
+    let there = sym (c .before .before .before .before .before .before .has-block .ensures) ∙ not-false _ (c .before .before .before .before .before .if1 .left) in
+    let same = c .before .before .before .before .asks-any .ensures ∙ ap asks (block-named h n m _ fine there (c .before .before .before .before .before .before .before .before .before .before .before .before .pre .1)) in
+    (at-none (faultOf h m) (hasBlock h n) (asks (blockAt h n)) (someRecipient h) 20 21 fine there (sym same ∙ not-false _ (c .before .before .before .if2 .left)) (sym (c .before .some-recipient .ensures) ∙ not-false _ (c .if3 .left)), refl)
 
 pub check-posting-spec : {M : Type 1} → statement M
 check-posting-spec = tie.close (tie.spec (λ c κs. search needs) (λ c. search needs) (λ c. search needs) (λ c κs. search needs) returns (λ c κs. search needs) (λ c κs. search needs) returns-2 (λ c κs. search needs) (λ c κs. search needs) returns-3 (λ c κs. search needs) (λ c κs. search needs) returns-4 returns-5)

@@ -1,8 +1,8 @@
 -- `playing::play_block` meets its contract. Assumes nothing.
 use borrow.Author.Needs.{needs}
+use Rattle.playing.proofs.Playing.{plays-receipt, plays-posting}
 use Rattle.playing.proofs.play_block.Statement.{statement}
 use Rattle.playing.proofs.play_block.Tie as tie
-use Rattle.playing.proofs.Playing.{plays-receipt, plays-posting}
 
 returns : tie.Need-returns
 returns c = plays-receipt _ _ _ _ _ _ _ (c .before .before .before .is-receipt .ensures) (c .before .before .if1 .taken) (c .before .receipt .ensures .0)

@@ -1,27 +1,25 @@
 -- `reader::judge` meets its contract. Assumes nothing.
 use borrow.Author.Needs.{needs}
 use borrow.Author.Tests.{not-true, not-false}
-use mathlib.Core.Path.{sym, _∙_}
+use mathlib.Core.Path.{_≡_, sym, ap₂, _∙_}
+use mathlib.Core.Bool.{Bool, true, _&&_}
 use Rattle.codec.specs.Refusals.{checkNo}
-use Rattle.reader.proofs.Judging.{judged-rule, judged-size, judged-sizes, judged-right}
+use Rattle.record_octets.specs.Record.{headerIn}
+use Rattle.reader.proofs.Judging.{judged-rule, judged-size, judged-fine}
 use Rattle.reader.proofs.judge.Statement.{statement}
 use Rattle.reader.proofs.judge.Tie as tie
 
 returns : tie.Need-returns
-unfolding checkNo
-returns c = judged-rule _ _ _ _ (sym (c .before .rules-kept .ensures) ∙ not-true _ (c .if1 .taken))
+unfolding checkNo headerIn
+returns c = let s = rw (c .before .before .before .setting-of .ensures) at (c .before .see-blocks .ensures) in judged-rule (headerIn (c .before .before .before .before .before .args .h .now)) _ _ _ _ true (s .0) (not-true _ (c .if1 .taken))
 
 returns-2 : tie.Need-returns-2
-unfolding checkNo
-returns-2 c = judged-size _ _ _ _ (sym (c .before .before .before .rules-kept .ensures) ∙ not-false _ (c .before .before .if1 .left)) (sym (c .before .size-holds .ensures) ∙ not-true _ (c .if2 .taken))
+unfolding checkNo headerIn
+returns-2 c = let s = rw (c .before .before .before .before .before .before .setting-of .ensures) at (c .before .before .before .before .see-blocks .ensures) in judged-size (headerIn (c .before .before .before .before .before .before .before .before .args .h .now)) _ _ _ _ _ (s .0) (c .before .both .ensures ∙ ap₂ _&&_ (c .before .before .size-holds .ensures) (s .1)) (not-false _ (c .before .before .before .if1 .left)) (not-true _ (c .if2 .taken))
 
 returns-3 : tie.Need-returns-3
-unfolding checkNo
-returns-3 c = judged-sizes _ _ _ _ (sym (c .before .before .before .before .before .before .rules-kept .ensures) ∙ not-false _ (c .before .before .before .before .before .if1 .left)) (sym (c .before .before .before .before .size-holds .ensures) ∙ not-false _ (c .before .before .before .if2 .left)) (sym (c .before .sizes-right .ensures) ∙ not-true _ (c .if3 .taken))
-
-returns-4 : tie.Need-returns-4
-unfolding checkNo
-returns-4 c = judged-right _ _ _ _ (sym (c .before .before .before .before .before .before .rules-kept .ensures) ∙ not-false _ (c .before .before .before .before .before .if1 .left)) (sym (c .before .before .before .before .size-holds .ensures) ∙ not-false _ (c .before .before .before .if2 .left)) (sym (c .before .sizes-right .ensures) ∙ not-false _ (c .if3 .left))
+unfolding checkNo headerIn
+returns-3 c = let s = rw (c .before .before .before .before .before .before .setting-of .ensures) at (c .before .before .before .before .see-blocks .ensures) in judged-fine (headerIn (c .before .before .before .before .before .before .before .before .args .h .now)) _ _ _ _ _ (s .0) (c .before .both .ensures ∙ ap₂ _&&_ (c .before .before .size-holds .ensures) (s .1)) (not-false _ (c .before .before .before .if1 .left)) (not-false _ (c .if2 .left))
 
 pub judge-spec : {M : Type 1} → statement M
-judge-spec = tie.close (tie.spec (λ c κs. search needs) returns (λ c κs. search needs) returns-2 (λ c κs. search needs) returns-3 returns-4)
+judge-spec = tie.close (tie.spec (λ c κs. search needs) (λ c. search needs) (λ c. search needs) (λ c. search needs) (λ c κs. search needs) returns (λ c κs. search needs) (λ c κs. search needs) returns-2 returns-3)

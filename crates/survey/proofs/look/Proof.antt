@@ -1,35 +1,26 @@
 -- `survey::look` meets its contract. Assumes nothing.
 use borrow.Author.Needs.{needs}
-use Prim.Native.Nat.{ℕ, _+_, _-_}
-use mathlib.Core.Path.{_≡_, ap, ap₂, _∙_}
-use mathlib.Core.Bool.{Bool, _&&_}
-use lib.Dec.{leb}
+use Prim.Native.Nat.{ℕ, _+_}
+use mathlib.Core.Path.{_≡_, ap, _∙_}
 use native.Mathlib.Omega.{arith}
-use Rattle.header.specs.Sizes.{owns}
 use Rattle.header.specs.Table.{block}
-use Rattle.header.specs.declared.Block.{Block}
+use Rattle.record_octets.specs.Record.{blockIn}
 use Rattle.survey.proofs.look.Statement.{statement}
 use Rattle.survey.proofs.look.Tie as tie
 
--- the share that a block takes may be taken, and owned
-share-right : (before fits owned after : Bool) (n m left : ℕ) (b : Block) → after ≡ fits && owned → fits ≡ before && leb n left → owned ≡ owns (b, n) → n ≡ m → after ≡ (before && leb m left) && owns (b, m)
-share-right before fits owned after n m left b e f o h = e ∙ ap₂ _&&_ (f ∙ ap (λ (k : ℕ). before && leb k left) h) (o ∙ ap (λ (k : ℕ). owns (b, k)) h)
-
 end-flag-requires : tie.Need-end-flag-requires
-end-flag-requires c κs = omega (arith, c .before .before .before .before .before .before .before .before .before .pre .0)
+end-flag-requires c κs = omega (arith, c .before .before .pre .0)
 
 end-block-requires : tie.Need-end-block-requires
-end-block-requires c κs = let p = c .before .before .before .before .before .before .before .before .before .before .pre in (omega (arith, p .0, c .end-flag .ensures), p .1)
+end-block-requires c κs = (omega (arith, c .before .before .before .pre .0, c .end-flag .ensures), c .before .before .before .pre .1, c .before .before .before .pre .2)
 
 returns : tie.Need-returns
-returns c =
-    let s = c .before .before .before .before .before .before .before .before .before .before .before .args in
-    let n = c .before .before .before .before .before .before .before .before .share .ensures in (
-      c .before .before .before .before .before .before .before .before .before .both .ensures ∙ ap (λ (k : Bool). s .f .kept && k) (c .before .before .before .before .before .before .before .before .before .before .keeps .ensures),
-      share-right (s .f .right) _ _ _ _ _ (s .f .left .0) (s .b) (c .before .before .before .both3 .ensures) (c .before .before .before .before .before .both2 .ensures) (c .before .before .before .before .owns-rightly .ensures) n,
-      c .before .before .rest .ensures ∙ ap (λ (k : ℕ). s .f .left .0 - k) n,
-      c .end-block .ensures ∙ ap (λ (k : ℕ). k + block .size (s .b)) (c .before .end-flag .ensures),
-    )
+returns c = (
+  c .before .before .see .ensures .0,
+  c .before .before .see .ensures .1,
+  c .before .before .see .ensures .2,
+  c .end-block .ensures ∙ ap (λ (k : ℕ). k + block .size (blockIn (c .before .before .before .before .args .b .now))) (c .before .end-flag .ensures),
+)
 
 pub look-spec : {M : Type 1} → statement M
-look-spec = tie.close (tie.spec (λ c κs. search needs) (λ c κs. search needs) (λ c κs. search needs) (λ c κs. search needs) (λ c κs. search needs) (λ c κs. search needs) (λ c κs. search needs) end-flag-requires end-block-requires returns)
+look-spec = tie.close (tie.spec (λ c κs. search needs) end-flag-requires end-block-requires returns)

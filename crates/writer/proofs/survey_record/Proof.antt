@@ -5,35 +5,35 @@ use mathlib.Core.Path.{_≡_, ap, sym, _∙_}
 use Rattle.codec.specs.Codec.{first}
 use Rattle.header.specs.Rules.{rulesKept, rules, settingOf, usedBlocks}
 use Rattle.header.specs.Table.{front, blocks}
+use Rattle.record_octets.specs.Record.{headerIn}
 use Rattle.rules.proofs.Over.{all-swap}
 use Rattle.writer.proofs.Parts.{blocks-legal}
 use Rattle.survey.proofs.Surveys.{fine-check, faulty, first-faulty}
 use Rattle.writer.proofs.survey_record.Statement.{statement}
 use Rattle.writer.proofs.survey_record.Tie as tie
 
--- behind the first test the fields before the blocks are legal
-front-fine : (m : tie.At-match-keys1) → front .check (m .before .before .args .h .front) ≡ 0
-front-fine m = fine-check _ _ (m .before .check-front .ensures) (m .match .keys1)
-
 returns : tie.Need-returns
-returns c =
-    let t = c .before .before .match .keys2 in
-    faulty _ _ _ (c .broken-off .ensures) t (first-faulty _ _ _ (c .before .before .before .check-front .ensures) t)
+unfolding headerIn
+returns c = faulty _ _ _ (c .broken-off .ensures) (c .before .before .match .keys2) (first-faulty _ _ _ (c .before .before .before .check-front .ensures) (c .before .before .match .keys2))
 
 blocks-place-requires : tie.Need-blocks-place-requires
-blocks-place-requires c κs = front-fine (c .before .before)
+unfolding headerIn
+blocks-place-requires c κs = (fine-check _ _ (c .before .before .before .check-front .ensures) (c .before .before .match .keys1), c .before .before .before .before .before .before .pre)
+
+survey-blocks-requires : tie.Need-survey-blocks-requires
+survey-blocks-requires c κs = (c .before .blocks-place .ensures .1, search needs)
 
 returns-2 : tie.Need-returns-2
-unfolding rulesKept first
+unfolding rulesKept first headerIn
 returns-2 c =
-    let m = c .before .before .before .before in
-    let h = m .before .before .args .h in
-    let e = rw (c .before .before .setting-of .ensures) at (c .survey-blocks .ensures) in (
-      e .0 ∙ sym (ap (λ (k : ℕ). first k (blocks .check (h .blocks))) (front-fine m)),
+    let h = headerIn (c .before .before .before .before .before .before .before .before .before .args .h .now) in
+    let z : front .check (h .front) ≡ 0 = fine-check _ _ (c .before .before .before .before .before .before .check-front .ensures) (c .before .before .before .before .before .match .keys1) in
+    let e = rw (c .before .before .before .setting-of .ensures) at (c .survey-blocks .ensures) in (
+      e .0 ∙ sym (ap (λ (k : ℕ). first k (blocks .check (h .blocks))) z),
       λ fine.
           let r = e .1 (blocks-legal h fine) in
-          (r .0 ∙ sym (all-swap rules (settingOf h) (usedBlocks (h .blocks))), r .1, r .2 ∙ c .before .blocks-place .ensures .0),
+          (r .0 ∙ sym (all-swap rules (settingOf h) (usedBlocks (h .blocks))), r .1, r .2 ∙ c .before .before .blocks-place .ensures .0),
     )
 
 pub survey-record-spec : {M : Type 1} → statement M
-survey-record-spec = tie.close (tie.spec (λ c κs. search needs) (λ c. search needs) (λ c. search needs) (λ c κs. search needs) returns (λ c κs. search needs) blocks-place-requires (λ c κs. search needs) returns-2)
+survey-record-spec = tie.close (tie.spec (λ c. search needs) (λ c. search needs) (λ c. search needs) (λ c κs. search needs) (λ c. search needs) (λ c. search needs) (λ c κs. search needs) returns (λ c κs. search needs) blocks-place-requires (λ c. search needs) (λ c. search needs) (λ c. search needs) survey-blocks-requires returns-2)

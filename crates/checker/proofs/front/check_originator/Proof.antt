@@ -1,18 +1,20 @@
 -- `checker::front::check_originator` meets its contract. Assumes nothing.
 use borrow.Author.Needs.{needs}
+use mathlib.Core.Path.{sym, _∙_}
 use Rattle.codec.specs.Refusals.{checkNo}
 use Rattle.codec.proofs.Compose.{checking}
 use Rattle.header.specs.Table.{originator}
+use Rattle.record_octets.specs.Record.{optionalAddressIn}
 use Rattle.checker.proofs.front.check_originator.Statement.{statement}
 use Rattle.checker.proofs.front.check_originator.Tie as tie
 
 returns : tie.Need-returns
-unfolding originator checkNo
-returns c = search checking depth 12
+unfolding originator checkNo optionalAddressIn
+returns c = let e = sym (c .before .before .before .load-flag .ensures) ∙ c .before .before .if1 .taken in search checking depth 12
 
 returns-2 : tie.Need-returns-2
-unfolding originator checkNo
-returns-2 c = search checking depth 12
+unfolding originator checkNo optionalAddressIn
+returns-2 c = let e = sym (c .before .load-flag .ensures) ∙ c .if1 .left in search checking depth 12
 
 pub check-originator-spec : {M : Type 1} → statement M
-check-originator-spec = tie.close (tie.spec (λ c κs. search needs) returns returns-2)
+check-originator-spec = tie.close (tie.spec (λ c. search needs) (λ c. search needs) (λ c. search needs) (λ c κs. search needs) (λ c. search needs) (λ c. search needs) (λ c. search needs) (λ c κs. search needs) returns returns-2)

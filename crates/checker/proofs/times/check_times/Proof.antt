@@ -6,6 +6,7 @@ use mathlib.Core.Bool.{Bool, true, false}
 use Rattle.codec.specs.Codec.{first, flag, nothing, present, viewed, _thenBy_}
 use Rattle.header.specs.Table.{times, optionalRequests, requests}
 use Rattle.header.specs.declared.Requests.{Requests}
+use Rattle.record_octets.specs.Record.{timesIn}
 use Rattle.checker.proofs.times.check_times.Statement.{statement}
 use Rattle.checker.proofs.times.check_times.Tie as tie
 
@@ -21,12 +22,12 @@ first-none zero = refl
 first-none (suc f) = refl
 
 returns : tie.Need-returns
-unfolding times viewed _thenBy_
+unfolding times viewed _thenBy_ timesIn
 returns c =
-    let x = c .before .before .before .args .x in
+    let x = timesIn (c .before .before .before .before .before .before .args .x .now) .requests in
     c .earlier .ensures
-    ∙ ap₂ first (c .before .before .check-optional-stamp .ensures)
-    (c .before .check-optional-dtg .ensures ∙ sym (first-none _) ∙ ap (first _) (sym (requests-fine (x .requests .present) (x .requests .requests))))
+    ∙ ap₂ first (c .before .before .before .check-optional-stamp .ensures)
+    (c .before .check-optional-dtg .ensures ∙ sym (first-none _) ∙ ap (first _) (sym (requests-fine (x .present) (x .requests))))
 
 pub check-times-spec : {M : Type 1} → statement M
-check-times-spec = tie.close (tie.spec (λ c κs. search needs) (λ c κs. search needs) (λ c κs. search needs) returns)
+check-times-spec = tie.close (tie.spec (λ c. search needs) (λ c. search needs) (λ c. search needs) (λ c κs. search needs) (λ c. search needs) (λ c. search needs) (λ c. search needs) (λ c κs. search needs) (λ c κs. search needs) returns)

@@ -4,19 +4,20 @@ use Rattle.codec.specs.Codec.{_thenBy_, viewed}
 use Rattle.codec.proofs.Compose.{writing}
 use Rattle.header.specs.Table.{block}
 use Rattle.header.proofs.Legal.{block-references}
+use Rattle.record_octets.specs.Record.{blockIn}
 use Rattle.write_block.proofs.block.write_block.Statement.{statement}
 use Rattle.write_block.proofs.block.write_block.Tie as tie
 
 write-message-requires : tie.Need-write-message-requires
-unfolding block _thenBy_ viewed
+unfolding block _thenBy_ viewed blockIn
 write-message-requires c κs = search needs
 
 write-tail-requires : tie.Need-write-tail-requires
-unfolding block _thenBy_ viewed
-write-tail-requires c κs = let s = c .before .before .before .before .before .before in (search needs, block-references (s .args .x) (s .pre .1))
+unfolding block _thenBy_ viewed blockIn
+write-tail-requires c κs = (search needs, block-references (blockIn (c .before .before .before .before .before .before .before .args .x .now)) (c .before .before .before .before .before .before .before .pre .1), c .before .before .before .before .before .before .before .pre .2)
 
 returns : tie.Need-returns
-unfolding block
+unfolding block blockIn
 returns c = search writing depth 12
 
 pub write-block-spec : {M : Type 1} → statement M

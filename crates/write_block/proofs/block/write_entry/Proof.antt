@@ -2,16 +2,17 @@
 use borrow.Author.Needs.{needs}
 use Rattle.codec.specs.Codec.{flag}
 use Rattle.codec.proofs.Compose.{writing}
+use Rattle.record_octets.specs.Record.{blockIn}
 use Rattle.write_block.proofs.block.write_entry.Statement.{statement}
 use Rattle.write_block.proofs.block.write_entry.Tie as tie
 
 write-flag-requires : tie.Need-write-flag-requires
-unfolding flag
+unfolding flag blockIn
 write-flag-requires c κs = search needs
 
 write-block-requires : tie.Need-write-block-requires
-unfolding flag
-write-block-requires c κs = let s = c .before .before .before .before .before .before in (search needs, s .pre .1)
+unfolding flag blockIn
+write-block-requires c κs = (search needs, c .before .before .before .before .before .before .before .pre .1, c .before .before .before .before .before .before .before .pre .2)
 
 returns : tie.Need-returns
 returns c = search writing depth 12

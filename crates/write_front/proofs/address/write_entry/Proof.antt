@@ -2,11 +2,12 @@
 use borrow.Author.Needs.{needs}
 use Rattle.codec.specs.Codec.{flag}
 use Rattle.codec.proofs.Compose.{writing}
+use Rattle.record_octets.specs.Record.{addressIn}
 use Rattle.write_front.proofs.address.write_entry.Statement.{statement}
 use Rattle.write_front.proofs.address.write_entry.Tie as tie
 
 write-address-requires : tie.Need-write-address-requires
-unfolding flag
+unfolding flag addressIn
 write-address-requires c κs = search needs
 
 returns : tie.Need-returns

@@ -2,23 +2,25 @@
 use borrow.Author.Needs.{needs}
 use Rattle.codec.specs.Codec.{_thenBy_, number}
 use Rattle.codec.proofs.Compose.{writing, number-writes}
+use Rattle.record_octets.specs.Record.{frontIn}
 use Rattle.write_front.proofs.front.write_origin.Statement.{statement}
 use Rattle.write_front.proofs.front.write_origin.Tie as tie
 
-write-number-requires : tie.Need-write-number-requires
-unfolding _thenBy_ number
-write-number-requires c κs = search needs
+write-word-requires : tie.Need-write-word-requires
+unfolding _thenBy_ number frontIn
+write-word-requires c κs = search needs
 
 write-optional-requires : tie.Need-write-optional-requires
-unfolding _thenBy_ number
+unfolding _thenBy_ number frontIn
 write-optional-requires c κs = search needs
 
 write-originator-requires : tie.Need-write-originator-requires
-unfolding _thenBy_ number
+unfolding _thenBy_ number frontIn
 write-originator-requires c κs = search needs
 
 returns : tie.Need-returns
-returns c = let v = number-writes _ _ _ _ 2 _ _ _ _ _ (c .before .before .before .before .before .before .before .before .before .before .write-number .ensures) in search writing depth 12
+unfolding frontIn
+returns c = let v = number-writes _ _ _ _ 2 _ _ _ _ _ (c .before .before .before .before .before .before .before .before .before .before .before .before .write-word .ensures) in search writing depth 12
 
 pub write-origin-spec : {M : Type 1} → statement M
-write-origin-spec = tie.close (tie.spec write-number-requires write-optional-requires write-originator-requires (λ c. search needs) returns)
+write-origin-spec = tie.close (tie.spec (λ c. search needs) (λ c. search needs) (λ c. search needs) write-word-requires (λ c. search needs) (λ c. search needs) (λ c. search needs) write-optional-requires (λ c. search needs) (λ c. search needs) (λ c. search needs) write-originator-requires (λ c. search needs) returns)

@@ -3,24 +3,25 @@ use borrow.Author.Needs.{needs}
 use Rattle.codec.specs.Codec.{_thenBy_, viewed, number}
 use Rattle.codec.proofs.Compose.{writing}
 use Rattle.header.specs.Table.{date}
+use Rattle.record_octets.specs.Record.{dateIn}
 use Rattle.write_group.proofs.dtg.write_date.Statement.{statement}
 use Rattle.write_group.proofs.dtg.write_date.Tie as tie
 
-write-number-requires : tie.Need-write-number-requires
-unfolding date _thenBy_ viewed number
-write-number-requires c κs = search needs
+write-word-requires : tie.Need-write-word-requires
+unfolding date _thenBy_ viewed number dateIn
+write-word-requires c κs = search needs
 
-write-number-requires-2 : tie.Need-write-number-requires-2
-unfolding date _thenBy_ viewed number
-write-number-requires-2 c κs = search needs
+write-word-requires-2 : tie.Need-write-word-requires-2
+unfolding date _thenBy_ viewed number dateIn
+write-word-requires-2 c κs = search needs
 
-write-number-requires-3 : tie.Need-write-number-requires-3
-unfolding date _thenBy_ viewed number
-write-number-requires-3 c κs = search needs
+write-word-requires-3 : tie.Need-write-word-requires-3
+unfolding date _thenBy_ viewed number dateIn
+write-word-requires-3 c κs = search needs
 
 returns : tie.Need-returns
-unfolding date
+unfolding date dateIn
 returns c = search writing depth 12
 
 pub write-date-spec : {M : Type 1} → statement M
-write-date-spec = tie.close (tie.spec write-number-requires write-number-requires-2 write-number-requires-3 (λ c. search needs) returns)
+write-date-spec = tie.close (tie.spec (λ c. search needs) (λ c. search needs) (λ c. search needs) write-word-requires (λ c. search needs) (λ c. search needs) (λ c. search needs) write-word-requires-2 (λ c. search needs) (λ c. search needs) (λ c. search needs) write-word-requires-3 (λ c. search needs) returns)

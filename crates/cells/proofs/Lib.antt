@@ -1,0 +1,8 @@
+pub mod Parts
+pub mod Replaced
+pub mod Stores
+pub mod Lists
+pub mod Sets
+pub mod Moved
+mod Shift
+mod Copying

@@ -1,0 +1,13 @@
+-- `inspect::moment::check_date` meets its contract. Assumes nothing.
+use borrow.Author.Needs.{needs}
+use Rattle.codec.proofs.Compose.{checking}
+use Rattle.header.specs.Table.{date}
+use Rattle.inspect.proofs.moment.check_date.Statement.{statement}
+use Rattle.inspect.proofs.moment.check_date.Tie as tie
+
+returns : tie.Need-returns
+unfolding date
+returns c = search checking depth 12
+
+pub check-date-spec : {M : Type 1} → statement M
+check-date-spec = tie.close (tie.spec (λ c κs. search needs) (λ c κs. search needs) (λ c κs. search needs) (λ c κs. search needs) (λ c κs. search needs) returns)

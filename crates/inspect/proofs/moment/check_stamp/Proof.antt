@@ -1,0 +1,13 @@
+-- `inspect::moment::check_stamp` meets its contract. Assumes nothing.
+use borrow.Author.Needs.{needs}
+use Rattle.codec.proofs.Compose.{checking}
+use Rattle.header.specs.Table.{stamp}
+use Rattle.inspect.proofs.moment.check_stamp.Statement.{statement}
+use Rattle.inspect.proofs.moment.check_stamp.Tie as tie
+
+returns : tie.Need-returns
+unfolding stamp
+returns c = search checking depth 12
+
+pub check-stamp-spec : {M : Type 1} → statement M
+check-stamp-spec = tie.close (tie.spec (λ c κs. search needs) (λ c κs. search needs) (λ c κs. search needs) returns)

@@ -1,0 +1,7 @@
+// The leaves of a record where they lie in its octets: numbers, presence flags, numbers that may be absent, and texts, checked,
+// followed to their end and written; the room that G2 leaves for G3; and single fields of a block.
+pub mod addressees;
+pub mod block;
+pub mod numbers;
+pub mod setting;
+pub mod texts;

@@ -1,0 +1,39 @@
+-- `reader::wire::read_fields` meets its contract. Assumes nothing.
+use borrow.Author.Needs.{needs}
+use mathlib.Core.Path.{_≡_, refl, sym, ap, _∙_}
+use mathlib.Core.Bool.{true, false}
+use native.Mathlib.Omega.{arith}
+use lib.Dec.{lit<, lit≤}
+use Rattle.codec.proofs.Compose.{stopping, getting, left-out, shape-stop, here-stop, group-then-stop, flag-then-stop, group-stop, flag-stop, present-stop}
+use Rattle.cells.specs.Cells.{wordOctets, flagOctets, markOctets, manyOctets}
+use Rattle.into.proofs.Ready.{Ready, ready-none, ready-part, ready-part-long, ready-next, ready-all}
+use Rattle.into.proofs.Telling.{telling, tells-here, tells-group-then, tells-flag-then, tells-shape, tells-present, into-stop, into-tell, into-got}
+use Rattle.header.specs.Table.{wire}
+use Rattle.header.specs.Zero.{noNumber, noFront, noBlocks}
+use Rattle.record_octets.specs.Record.{headerOctets}
+use Rattle.reader.proofs.wire.read_fields.Statement.{statement}
+use Rattle.reader.proofs.wire.read_fields.Tie as tie
+
+read-front-requires : tie.Need-read-front-requires
+read-front-requires c κs = (c .before .before .before .pre .0, ready-part 2672 (ready-none 16312 (c .before .before .before .args .h .now) (c .before .before .before .pre .1)) (omega arith), ready-part-long 2672 (ready-none 16312 (c .before .before .before .args .h .now) (c .before .before .before .pre .1)) (omega arith))
+
+returns : tie.Need-returns
+unfolding wire
+returns c = into-stop (record { front = noFront; size = noNumber; blocks = noBlocks }) _ (search (shape-stop, here-stop, group-then-stop, group-stop, c .before .match .keys2, c .before .before .before .before .read-front .ensures .told) depth 14)
+
+returns-2 : tie.Need-returns-2
+unfolding wire
+returns-2 c = into-stop (record { front = noFront; size = noNumber; blocks = noBlocks }) _ (search (shape-stop, here-stop, group-then-stop, group-stop, c .before .match2 .keys2, c .before .before .before .read-optional .ensures, c .before .before .before .before .before .step .given .1, c .before .before .before .before .before .before .before .before .before .read-front .ensures .told) depth 14)
+
+read-blocks-requires : tie.Need-read-blocks-requires
+read-blocks-requires c κs = (c .before .before .before .before .before .before .before .before .before .before .before .before .before .before .before .before .before .before .before .pre .0, ready-part 13636 (ready-next 4 (ready-next 2672 (ready-none 16312 (c .before .before .before .before .before .before .before .before .before .before .before .before .before .before .before .before .before .before .before .args .h .now) (c .before .before .before .before .before .before .before .before .before .before .before .before .before .before .before .before .before .before .before .pre .1)) (omega arith) _ _ (c .before .before .before .before .before .before .before .before .before .before .before .before .before .before .h .given .0) (c .before .before .before .before .before .before .before .before .before .before .before .before .before .before .before .read-front .ensures .held _ (c .before .before .before .before .before .before .before .before .before .before .before .step .given .1) .0)) (omega arith) _ _ (c .before .before .h2 .given .0) (c .before .before .before .store-mark .ensures)) (omega arith), ready-part-long 13636 (ready-next 4 (ready-next 2672 (ready-none 16312 (c .before .before .before .before .before .before .before .before .before .before .before .before .before .before .before .before .before .before .before .args .h .now) (c .before .before .before .before .before .before .before .before .before .before .before .before .before .before .before .before .before .before .before .pre .1)) (omega arith) _ _ (c .before .before .before .before .before .before .before .before .before .before .before .before .before .before .h .given .0) (c .before .before .before .before .before .before .before .before .before .before .before .before .before .before .before .read-front .ensures .held _ (c .before .before .before .before .before .before .before .before .before .before .before .step .given .1) .0)) (omega arith) _ _ (c .before .before .h2 .given .0) (c .before .before .before .store-mark .ensures)) (omega arith))
+
+same-length-3 : tie.Need-same-length-3
+same-length-3 c = c .before .h3 .given .1 ∙ c .before .before .before .before .before .h2 .given .1 ∙ c .before .before .before .before .before .before .before .before .before .before .before .before .before .before .before .before .before .h .given .1
+
+returns-3 : tie.Need-returns-3
+unfolding wire headerOctets
+returns-3 c = into-tell (record { front = c .before .before .before .before .before .before .before .before .before .before .before .before .before .before .before .before .before .before .read-front .ensures .value; size = c .before .before .before .before .before .before .before .before .before .before .before .before .read-optional .result .number; blocks = c .before .before .read-blocks .ensures .value }) _ (search (tells-here, tells-group-then, tells-shape, c .before .before .read-blocks .ensures .told, c .before .before .before .before .before .before .before .before .before .step2 .given .1, c .before .before .before .before .before .before .before .before .before .before .before .before .read-optional .ensures, c .before .before .before .before .before .before .before .before .before .before .before .before .before .before .step .given .1, c .before .before .before .before .before .before .before .before .before .before .before .before .before .before .before .before .before .before .read-front .ensures .told) depth 14) (λ q e. (ready-all (ready-next 13636 (ready-next 4 (ready-next 2672 (ready-none 16312 (c .before .before .before .before .before .before .before .before .before .before .before .before .before .before .before .before .before .before .before .before .before .before .args .h .now) (c .before .before .before .before .before .before .before .before .before .before .before .before .before .before .before .before .before .before .before .before .before .before .pre .1)) (omega arith) _ _ (c .before .before .before .before .before .before .before .before .before .before .before .before .before .before .before .before .before .h .given .0) (c .before .before .before .before .before .before .before .before .before .before .before .before .before .before .before .before .before .before .read-front .ensures .held _ (c .before .before .before .before .before .before .before .before .before .before .before .before .before .before .step .given .1) .0)) (omega arith) _ _ (c .before .before .before .before .before .h2 .given .0) (c .before .before .before .before .before .before .store-mark .ensures)) (omega arith) _ _ (c .before .h3 .given .0) (c .before .before .read-blocks .ensures .held q e .0)), (refl, record { front = c .before .before .before .before .before .before .before .before .before .before .before .before .before .before .before .before .before .before .read-front .ensures .held _ (c .before .before .before .before .before .before .before .before .before .before .before .before .before .before .step .given .1) .1; blocks = c .before .before .read-blocks .ensures .held q e .1 })))
+
+pub read-fields-spec : {M : Type 1} → statement M
+read-fields-spec = tie.close (tie.spec (λ c. search needs) (λ c. search needs) (λ c. search needs) read-front-requires (λ c. search needs) (λ c. search needs) (λ c. search needs) returns (λ c κs. search needs) (λ c. search needs) (λ c. search needs) (λ c. search needs) returns-2 (λ c. search needs) (λ c. search needs) (λ c. search needs) (λ c κs. search needs) (λ c. search needs) (λ c. search needs) (λ c. search needs) read-blocks-requires same-length-3 returns-3)
