@@ -1,7 +1,9 @@
 //! Whole records of octets laid before both programs: the library gets the octets as they are, the second program what
 //! they hold by the rules of the layout. The record stands between fences and cannot be stored to.
 
-use reference::Header;
+use pruvelaccio::raw::TableAnswer;
+use pruvelaccio::{RecordOctets, Table};
+use reference::{Board, Header};
 
 use crate::any_octets::{self, Lending};
 use crate::headers::{same_octets, same_size};
@@ -73,8 +75,8 @@ fn lend(run: &mut Run, lending: &Lending, header: &Header, pair: &Pair) -> Resul
     for room in rooms(&mut run.random, length) {
         compare_write(run, lending, header, room)?;
     }
-    compare_post(run, lending, header, pair)?;
-    compare_receipt(run, lending, header, pair)?;
+    compare_on_table(run, &POST, lending, header, pair)?;
+    compare_on_table(run, &RECEIPT, lending, header, pair)?;
     let same = as_record(run.fences.record.lent()) == &lending.record;
     if !same {
         return Err("the record has changed".to_string());
@@ -125,23 +127,21 @@ fn compare_write(
     run.tally.note(Kind::OctetsWrite, plain.err().unwrap_or(0))
 }
 
-fn compare_post(
-    run: &mut Run,
-    lending: &Lending,
-    header: &Header,
-    pair: &Pair,
-) -> Result<(), String> {
-    let record = as_record(run.fences.record.lent());
-    let Lending { count, block, .. } = *lending;
-    let mut plain = pair.plain.clone();
-    let number = reference::post(&mut plain, header, block, count);
-    let got = library::post(&pair.table, record, block, count as usize)?;
-    same_table(number, &plain, &pair.table, &got)?;
-    run.tally.note(Kind::OctetsPost, number)
+/// A call that takes a record to the table, as each of the two programs has it.
+struct OnTable {
+    kind: Kind,
+    plain: fn(&mut Board, &Header, u32, u64) -> u32,
+    proved: fn(&Table, &RecordOctets, u32, usize) -> Result<TableAnswer, String>,
 }
 
-fn compare_receipt(
+const POST: OnTable =
+    OnTable { kind: Kind::OctetsPost, plain: reference::post, proved: library::post };
+const RECEIPT: OnTable =
+    OnTable { kind: Kind::OctetsReceipt, plain: reference::receipt, proved: library::receipt };
+
+fn compare_on_table(
     run: &mut Run,
+    call: &OnTable,
     lending: &Lending,
     header: &Header,
     pair: &Pair,
@@ -149,8 +149,8 @@ fn compare_receipt(
     let record = as_record(run.fences.record.lent());
     let Lending { count, block, .. } = *lending;
     let mut plain = pair.plain.clone();
-    let number = reference::receipt(&mut plain, header, block, count);
-    let got = library::receipt(&pair.table, record, block, count as usize)?;
+    let number = (call.plain)(&mut plain, header, block, count);
+    let got = (call.proved)(&pair.table, record, block, count as usize)?;
     same_table(number, &plain, &pair.table, &got)?;
-    run.tally.note(Kind::OctetsReceipt, number)
+    run.tally.note(call.kind, number)
 }
