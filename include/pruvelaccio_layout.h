@@ -156,6 +156,26 @@ PRUVELACCIO_FIELD(header, front, 0, 2672);
 PRUVELACCIO_FIELD(header, sized, 2672, 1);
 PRUVELACCIO_FIELD(header, blocks, 2676, 13636);
 
+PRUVELACCIO_STRUCT(key, 112);
+PRUVELACCIO_FIELD(key, address, 0, 80);
+PRUVELACCIO_FIELD(key, stamp, 80, 32);
+
+PRUVELACCIO_STRUCT(recipient, 92);
+PRUVELACCIO_FIELD(recipient, address, 0, 80);
+PRUVELACCIO_FIELD(recipient, machine, 80, 4);
+PRUVELACCIO_FIELD(recipient, acknowledge, 84, 4);
+PRUVELACCIO_FIELD(recipient, reply, 88, 4);
+
+PRUVELACCIO_STRUCT(row, 1592);
+PRUVELACCIO_FIELD(row, key, 0, 112);
+PRUVELACCIO_FIELD(row, asked, 112, 3);
+PRUVELACCIO_FIELD(row, recipients, 116, 1472);
+PRUVELACCIO_FIELD(row, count, 1588, 4);
+
+PRUVELACCIO_STRUCT(table, 50948);
+PRUVELACCIO_FIELD(table, rows, 0, 50944);
+PRUVELACCIO_FIELD(table, count, 50944, 4);
+
 #undef PRUVELACCIO_STRUCT
 #undef PRUVELACCIO_FIELD
 

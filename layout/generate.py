@@ -1,14 +1,15 @@
 #!/usr/bin/env python3
-"""Writes everything that follows from the layout of a record's octets, from the one table of structs below: the constants that the
-code slices by, what the octets mean and the octets of a value with their laws (crates/record_octets), the places that the C header
-asserts (include/pruvelaccio_layout.h), and docs/LAYOUT.md. No place is written by hand anywhere.
+"""Writes everything that follows from the layout of the octets of a record and of a table of pending messages, from the one table of
+structs below: the constants that the code slices by, what the octets mean and the octets of a value with their laws
+(crates/record_octets, crates/table_octets), the places that the C header asserts (include/pruvelaccio_layout.h), and docs/LAYOUT.md.
+No place is written by hand anywhere.
 
     layout/generate.py           writes the files
     layout/generate.py --check   fails where a file is not what the table gives
 
-The layout is that of the #[repr(C)] structs of crates/text, crates/optional and crates/header: a number is four octets, the low one
-first; a flag is one octet, set unless it is 0; the characters of a text are one octet each. A flag in front of a number has three octets
-behind it that nothing uses.
+The layout is that of the #[repr(C)] structs of crates/text, crates/optional, crates/header, crates/order and crates/table: a number is four
+octets, the low one first; a flag is one octet, set unless it is 0; the characters of a text are one octet each. A flag in front of a number
+has three octets behind it that nothing uses, and the requests of a row have one.
 """
 import os
 import sys
@@ -21,10 +22,11 @@ LEAVES = {
     "flag": (1, "flagIn", "flagOctets", "flag"),
     "mark": (4, "flagIn", "markOctets", "flag, then 3 unused"),
     "chars": (64, None, None, "64 characters"),
+    "unused": (1, None, None, "unused"),
 }
 
 # struct, the crate that declares it, and its fields in order: the name of a kind, of a struct, or a struct with how many of them
-STRUCTS = [
+RECORD = [
     ("OptionalNumber", "optional", [("present", "mark"), ("value", "word")]),
     ("Text", "text", [("chars", "chars"), ("len", "word")]),
     ("OptionalText", "header", [("present", "mark"), ("text", "Text")]),
@@ -59,6 +61,13 @@ STRUCTS = [
     ("Blocks", "header", [("list", ("Block", 16)), ("count", "word")]),
     ("Header", "header", [("front", "Front"), ("sized", "mark"), ("blocks", "Blocks")]),
 ]
+TABLE = [
+    ("Key", "order", [("address", "Address"), ("stamp", "Stamp")]),
+    ("Recipient", "table", [("address", "Address"), ("machine", "word"), ("acknowledge", "word"), ("reply", "word")]),
+    ("Row", "table", [("key", "Key"), ("asked", "Requests"), (None, "unused"), ("recipients", ("Recipient", 16)), ("count", "word")]),
+    ("Table", "table", [("rows", ("Row", 32)), ("count", "word")]),
+]
+STRUCTS = RECORD + TABLE
 FIELDS = {name: fields for name, _, fields in STRUCTS}
 CRATE = {name: crate for name, crate, _ in STRUCTS}
 
@@ -90,15 +99,14 @@ def places(name):
 
 # ---------------------------------------------------------------- crates/record_octets: constants
 
-def constants():
-    out = """// The layout of a record's octets: for each struct a module `in_..` with the place of each of its fields, counted from the struct's own first
+def constants(structs, what, sizes):
+    out = """// The layout of the octets of %s: for each struct a module `in_..` with the place of each of its fields, counted from the struct's own first
 // octet, and END, its size; of a list also ENTRY, the size of an entry. A field ends where the next one starts. Written by layout/generate.py; what the octets mean is in specs/.
-
-// The octets of a record.
-pub const RECORD: usize = %d;
-""" % size("Header")
-    for name, _, _ in STRUCTS:
-        found = [(field.upper(), at) for field, _, at, _ in places(name)]
+""" % what
+    for constant, name, words in sizes:
+        out += "\n// The octets of %s.\npub const %s: usize = %d;\n" % (words, constant, size(name))
+    for name, _, _ in structs:
+        found = [(field.upper() if field else "UNUSED", at) for field, _, at, _ in places(name)]
         found += [("ENTRY", size(kind[0])) for _, kind, _, _ in places(name) if isinstance(kind, tuple)]
         found.append(("END", size(name)))
         out += "\npub mod in_%s {\n%s}\n" % (snake(name), "\n".join("    pub const %s: usize = %d;\n" % c for c in found))
@@ -107,11 +115,34 @@ pub const RECORD: usize = %d;
 
 # ---------------------------------------------------------------- crates/record_octets: meaning
 
-CELLS = "use Rattle.cells.specs.Cells.{part, wordIn, wordOctets, flagIn, flagOctets, markOctets, many, manyOctets}\n"
+def cells(structs):
+    return "use Rattle.cells.specs.Cells.{part, %swordIn, wordOctets, flagIn, flagOctets, markOctets, many, manyOctets}\n" % ("zeros, " if structs is TABLE else "")
 
 
-def declared():
-    return "".join("use Rattle.%s.specs.declared.%s.{%s}\n" % (crate, name, name) for name, crate, _ in STRUCTS)
+def declared(structs):
+    return "".join("use Rattle.%s.specs.declared.%s.{%s}\n" % (crate, name, name) for name, crate, _ in structs)
+
+
+def borrowed(structs):
+    """the structs of a record that others are made of"""
+    own = {name for name, _, _ in structs}
+    used = []
+    for _, _, fields in structs:
+        for _, kind in fields:
+            name = kind[0] if isinstance(kind, tuple) else kind
+            if name not in LEAVES and name not in own and name not in used:
+                used.append(name)
+    return used
+
+
+def used_from(structs, path, names):
+    """what is used of the crate of a record's octets"""
+    found = [each for name in borrowed(structs) for each in names(name)]
+    return "use Rattle.record_octets.%s.{%s}\n" % (path, ", ".join(found)) if found else ""
+
+
+def field_name(field):
+    return field or "unused"
 
 
 def means(kind):
@@ -120,6 +151,10 @@ def means(kind):
 
 def gives(kind):
     return LEAVES[kind][2] if kind in LEAVES else low(kind) + "Octets"
+
+
+def in_and_octets(name):
+    return ["%sIn" % low(name), "%sOctets" % low(name)]
 
 
 def meaning(kind, at, n):
@@ -131,6 +166,8 @@ def meaning(kind, at, n):
 
 
 def image(kind, field):
+    if kind == "unused":
+        return "zeros 1"
     if kind == "chars":
         return "x .%s" % field
     if isinstance(kind, tuple):
@@ -138,23 +175,29 @@ def image(kind, field):
     return "%s (x .%s)" % (gives(kind), field)
 
 
-def record_spec():
-    out = """-- What the octets of a record hold, and the octets of a record, struct by struct: each is about the octets that are the struct's own. Any octets are
--- some record. Written by layout/generate.py.
+def held_fields(name):
+    """the fields that the struct has, without the octets that nothing uses"""
+    return [(field, kind, at, n) for field, kind, at, n in places(name) if field]
+
+
+def octets_spec(structs, what):
+    out = """-- What the octets of %s hold, and the octets of %s, struct by struct: each is about the octets that are the struct's own. Any octets are
+-- some %s. Written by layout/generate.py.
 use Prim.Native.Nat.{ℕ}
 use mathlib.Core.List.{List, _++_}
-""" + CELLS + declared()
-    for name, _, fields in STRUCTS:
+""" % (what, what, what.split()[1]) + cells(structs) + declared(structs) + used_from(structs, "specs.Record", in_and_octets)
+    for name, _, fields in structs:
         out += "\nabbrev pub sizeOf%s : ℕ\nsizeOf%s = %d\n" % (name, name, size(name))
         out += "\nunfoldable pub %sIn : List ℕ → %s\n" % (low(name), name)
-        out += "%sIn s = record { %s }\n" % (low(name), "; ".join("%s = %s" % (f, meaning(k, at, n)) for f, k, at, n in places(name)))
+        out += "%sIn s = record { %s }\n" % (low(name), "; ".join("%s = %s" % (f, meaning(k, at, n)) for f, k, at, n in held_fields(name)))
         out += "\nunfoldable pub %sOctets : %s → List ℕ\n" % (low(name), name)
         out += "%sOctets x = %s\n" % (low(name), " ++ ".join(image(k, f) for f, k in fields))
-        for _, kind, _, _ in places(name):
+        for field, kind, _, _ in places(name):
             if isinstance(kind, tuple):
-                out += "\nabbrev pub sizeOf%sList : ℕ\nsizeOf%sList = %d\n" % (name, name, size(kind))
-                out += "\n-- of the octets of the list, and a count\nabbrev pub %sOf : List ℕ → ℕ → %s\n" % (low(name), name)
-                out += "%sOf s n = record { list = many %s %d %d s; count = n }\n" % (low(name), means(kind[0]), size(kind[0]), kind[1])
+                out += "\nabbrev pub sizeOf%s%s : ℕ\nsizeOf%s%s = %d\n" % (name, field.capitalize(), name, field.capitalize(), size(kind))
+                if [f for f, _ in fields] == ["list", "count"]:
+                    out += "\n-- of the octets of the list, and a count\nabbrev pub %sOf : List ℕ → ℕ → %s\n" % (low(name), name)
+                    out += "%sOf s n = record { list = many %s %d %d s; count = n }\n" % (low(name), means(kind[0]), size(kind[0]), kind[1])
     return out
 
 
@@ -167,19 +210,24 @@ def limited(kind):
     return kind not in LEAVES and any(limited(k) for _, k in FIELDS[kind])
 
 
-LIMITED = [name for name, _, _ in STRUCTS if limited(name)]
+def limits(structs):
+    return [name for name, _, _ in structs if limited(name)]
 
 
-def typed_spec():
-    out = """-- What the declared types say of a record's values, struct by struct: numbers are below 2^32, arrays have their cells. Every value that code holds is so
+def typed_name(name):
+    return ["Typed" + name] if limited(name) else []
+
+
+def typed_spec(structs, whose):
+    out = """-- What the declared types say of %s values, struct by struct: numbers are below 2^32, arrays have their cells. Every value that code holds is so
 -- (proofs/Declared.antt). Written by layout/generate.py.
 use Prim.Native.Nat.{ℕ, _<_}
 use mathlib.Core.Path.{_≡_}
 use mathlib.Core.List.{List}
 use lib.ListN.{length}
 use Rattle.cells.specs.Cells.{Each}
-""" + "".join("use Rattle.%s.specs.declared.%s.{%s}\n" % (CRATE[n], n, n) for n in LIMITED)
-    for name in LIMITED:
+""" % whose + "".join("use Rattle.%s.specs.declared.%s.{%s}\n" % (CRATE[n], n, n) for n in limits(structs)) + used_from(structs, "specs.Typed", typed_name)
+    for name in limits(structs):
         out += "\npub record Typed%s (x : %s) : Type 0 where\n" % (name, name)
         for field, kind in FIELDS[name]:
             if kind == "word":
@@ -197,6 +245,8 @@ use Rattle.cells.specs.Cells.{Each}
 
 def laws_of(kind, field):
     """the law of a field's length, and the law that its octets hold it"""
+    if kind == "unused":
+        return "refl", None
     if kind == "word":
         return "word-long (x .%s)" % field, "word-back (x .%s) (h .%s)" % (field, field)
     if kind in ("flag", "mark"):
@@ -211,18 +261,19 @@ def laws_of(kind, field):
     return low(kind) + "-long" + rest, low(kind) + "-back" + rest
 
 
-def back_proofs():
+def back_proofs(structs, crate, module):
     out = """-- A struct's octets are as many as it has, and they hold the struct. Assumes nothing. Written by layout/generate.py.
 use Prim.Native.Nat.{ℕ, _+_}
 use mathlib.Core.Path.{_≡_, refl, sym, ap, _∙_}
 use mathlib.Core.List.{List, [], _++_}
 use native.Mathlib.Omega.{arith}
 use lib.ListN.{length}
-""" + CELLS + """use Rattle.cells.proofs.Parts.{join, part-last, part-front, word-long, word-back, flag-long, flag-back, mark-long, mark-back, many-long, many-back}
-""" + declared()
-    out += "use Rattle.record_octets.specs.Record.{%s}\n" % ", ".join("%sIn, %sOctets" % (low(n), low(n)) for n, _, _ in STRUCTS)
-    out += "use Rattle.record_octets.specs.Typed.{%s}\n" % ", ".join("Typed" + n for n in LIMITED)
-    for name, _, fields in STRUCTS:
+""" + cells(structs) + """use Rattle.cells.proofs.Parts.{join, part-last, part-front, word-long, word-back, flag-long, flag-back, mark-long, mark-back, many-long, many-back}
+""" + declared(structs)
+    out += used_from(structs, "specs.Record", in_and_octets) + used_from(structs, "proofs.Back", lambda n: [low(n) + "-long", low(n) + "-back"])
+    out += "use Rattle.%s.specs.%s.{%s}\n" % (crate, module, ", ".join("%sIn, %sOctets" % (low(n), low(n)) for n, _, _ in structs))
+    out += "use Rattle.%s.specs.Typed.{%s}\n" % (crate, ", ".join("Typed" + n for n in limits(structs)))
+    for name, _, fields in structs:
         given = "(x : %s)" % name + (" → Typed%s x" % name if limited(name) else "")
         named = "x h" if limited(name) else "x"
         found = places(name)
@@ -242,6 +293,8 @@ use lib.ListN.{length}
         last = len(found)
         held = []
         for j, (field, kind, at, n) in enumerate(found):
+            if not field:
+                continue
             steps = ["part-front (%s) (%s) %d %d %d p%d (omega arith)" % (front[q], images[q], found[q][2], at, n, q) for q in range(last - 1, j, -1)]
             steps.append("part-last (%s) (%s) %d %d %s l%d" % (front[j], images[j], at, n, "p%d" % j if j else "refl", j))
             out += "    let e%d : part %d %d (%s) ≡ %s = %s in\n" % (j, at, n, front[last], images[j], " ∙ ".join(steps))
@@ -256,7 +309,7 @@ use lib.ListN.{length}
     return out
 
 
-def declared_proofs():
+def declared_proofs(structs, crate):
     out = """-- Every value of a declared type is as its type says: what the type says of the machine's value says how large numbers are, and how many cells arrays
 -- have. Assumes nothing. Written by layout/generate.py.
 use mathlib.Core.List.{List, [], _∷_, map}
@@ -268,13 +321,14 @@ use denote.Struct.Declared as declared
 use Rattle.codec.proofs.ListLaws.{unmapped}
 use Rattle.cells.specs.Cells.{Each}
 """
-    for name in LIMITED:
+    for name in limits(structs):
         out += "use Rattle.%s.specs.declared.%s.{%s}\nuse Rattle.%s.proofs.%s as «%s»\n" % (CRATE[name], name, name, CRATE[name], name, low(name))
-    out += "use Rattle.record_octets.specs.Typed.{%s}\n" % ", ".join("Typed" + n for n in LIMITED)
+    out += used_from(structs, "proofs.Declared", lambda n: [low(n) + "-typed"] if limited(n) else [])
+    out += "use Rattle.%s.specs.Typed.{%s}\n" % (crate, ", ".join("Typed" + n for n in limits(structs)))
     entries = {kind[0] for fields in FIELDS.values() for _, kind in fields if isinstance(kind, tuple)}
-    for name in LIMITED:
+    for name in limits(structs):
         parts = []
-        for j, (field, kind) in enumerate(FIELDS[name]):
+        for j, (field, kind, _, _) in enumerate(held_fields(name)):
             at = "p .1 .1" + " .1" * j + " .0"
             if kind == "word":
                 parts.append("%s = %s .1" % (field, at))
@@ -313,7 +367,7 @@ def c_asserts():
 """
     for name, _, _ in STRUCTS:
         out += "\nPRUVELACCIO_STRUCT(%s, %d);\n" % (snake(name), size(name))
-        for field, kind, at, octets in places(name):
+        for field, kind, at, octets in held_fields(name):
             # the three octets behind a mark are padding in C
             out += "PRUVELACCIO_FIELD(%s, %s, %d, %d);\n" % (snake(name), field, at, 1 if kind == "mark" else octets)
     out += "\n#undef PRUVELACCIO_STRUCT\n#undef PRUVELACCIO_FIELD\n\n#endif\n"
@@ -329,35 +383,43 @@ def kind_words(kind):
 
 
 def layout_doc():
-    out = """# The layout of a record
+    out = """# The layout of a record and of a table
 
 Written by `layout/generate.py` from its table of structs; `layout/generate.py --check`, which the gate runs, fails where this page, the
-constants of `crates/record_octets`, its definitions and laws, or the places that `include/pruvelaccio_layout.h` asserts are not what
-that table gives.
+constants of `crates/record_octets` and `crates/table_octets`, their definitions and laws, or the places that
+`include/pruvelaccio_layout.h` asserts are not what that table gives.
 
 A record is %s octets. Any octets are some record: `headerIn` of `crates/record_octets/specs/Record.antt` says which one. A number is four
 octets, the low one first. A flag is one octet, set unless it is 0. A character is one octet. What a record holds where nothing is
 present, and behind a count, is unused and carries no meaning; neither do the octets between a flag and the number behind it. A record
 that `read` fills has 0 in all of them (`headerOctets`).
 
-The places below count from the struct's own first octet. The structs are those of `crates/header`, `crates/text` and
-`crates/optional`, of `include/pruvelaccio.h` and of the Rust crate.
-""" % format(size("Header"), ",")
+A table of pending messages is %s octets, and a key %s. Any octets are some table: `tableIn` of `crates/table_octets/specs/Table.antt` says
+which one, and `keyIn` which key. What lies behind a count carries no meaning.
+
+The places below count from the struct's own first octet. The structs are those of `crates/table`, `crates/order`, `crates/header`,
+`crates/text` and `crates/optional`, of `include/pruvelaccio.h` and of the Rust crate.
+""" % tuple(format(size(name), ",") for name in ("Header", "Table", "Key"))
     for name, _, _ in reversed(STRUCTS):
         out += "\n## %s: %s octets\n\n| field | place | octets | kind |\n|---|---|---|---|\n" % (name, format(size(name), ","))
         for field, kind, at, n in places(name):
-            out += "| `%s` | %s | %s | %s |\n" % (field, format(at, ","), format(n, ","), kind_words(kind))
+            out += "| %s | %s | %s | %s |\n" % ("`%s`" % field if field else "", format(at, ","), format(n, ","), kind_words(kind))
     return out
 
 
 FILES = {
-    "crates/record_octets/src/lib.rt": constants,
+    "crates/record_octets/src/lib.rt": lambda: constants(RECORD, "a record", [("RECORD", "Header", "a record")]),
     "crates/record_octets/specs/Lib.antt": lambda: "pub mod Record\npub mod Typed\n",
-    "crates/record_octets/specs/Record.antt": record_spec,
-    "crates/record_octets/specs/Typed.antt": typed_spec,
+    "crates/record_octets/specs/Record.antt": lambda: octets_spec(RECORD, "a record"),
+    "crates/record_octets/specs/Typed.antt": lambda: typed_spec(RECORD, "a record's"),
     "crates/record_octets/proofs/Lib.antt": lambda: "pub mod Back\npub mod Declared\n",
-    "crates/record_octets/proofs/Back.antt": back_proofs,
-    "crates/record_octets/proofs/Declared.antt": declared_proofs,
+    "crates/record_octets/proofs/Back.antt": lambda: back_proofs(RECORD, "record_octets", "Record"),
+    "crates/record_octets/proofs/Declared.antt": lambda: declared_proofs(RECORD, "record_octets"),
+    "crates/table_octets/src/lib.rt": lambda: constants(TABLE, "a table", [("TABLE", "Table", "a table"), ("KEY", "Key", "a key")]),
+    "crates/table_octets/specs/Table.antt": lambda: octets_spec(TABLE, "a table"),
+    "crates/table_octets/specs/Typed.antt": lambda: typed_spec(TABLE, "a table's"),
+    "crates/table_octets/proofs/Back.antt": lambda: back_proofs(TABLE, "table_octets", "Table"),
+    "crates/table_octets/proofs/Declared.antt": lambda: declared_proofs(TABLE, "table_octets"),
     "include/pruvelaccio_layout.h": c_asserts,
     "docs/LAYOUT.md": layout_doc,
 }

@@ -1,4 +1,4 @@
-// The layout of a record's octets: for each struct a module `in_..` with the place of each of its fields, counted from the struct's own first
+// The layout of the octets of a record: for each struct a module `in_..` with the place of each of its fields, counted from the struct's own first
 // octet, and END, its size; of a list also ENTRY, the size of an entry. A field ends where the next one starts. Written by layout/generate.py; what the octets mean is in specs/.
 
 // The octets of a record.
