@@ -6,20 +6,20 @@
  * Every call takes any input. Its answer has number 0, done, or the number of a refusal with its bit place.
  * A refusal stores nothing through any pointer.
  *
- * A record is lent: the library reads it, and fills it, where it lies. Any octets at all are some record: a
- * flag is set unless its octet is 0, a number is 32 bits with the low octet first, and the octets between the
- * cells carry no meaning. The table and a key go by value.
+ * Everything is lent: the library reads and changes a record, a table and a key where they lie. Any octets at
+ * all are some record, some table and some key: a flag is set unless its octet is 0, a number is 32 bits with
+ * the low octet first, and what is not used carries no meaning.
  *
  * The host sees to this:
- * - Every bool of a table and of a key holds 0 or 1. Octets that come from outside go through
- *   pruvelaccio_load_... A record can be lent as it came; but C too takes a bool to hold 0 or 1, so a host
- *   that looks at the flags of such a record loads it first.
  * - A pointer reaches as many octets as the length beside it says, or the whole struct. NULL is fine with
  *   length 0. A pointer to a size that the host does not want may be NULL. No other pointer may.
- * - What a call stores to lies apart from all else that it is lent, and nobody else changes any of it before
- *   the call has ended. A record in memory that another process writes to is copied first.
- * - The stack has room. The table goes to the library by value: posting, the deepest call, takes 370 KB, so
- *   a thread wants 512 KB.
+ * - What a call stores to lies apart from all else that it is lent; only the key of a release may be a key of
+ *   the table itself. docs/CALLS.md has each pair. Nobody else changes any of it before the call has ended:
+ *   memory that another process writes to is copied first.
+ * - C takes a bool to hold 0 or 1. The library stores nothing else, and pruvelaccio_load_... makes it so. A host
+ *   that puts octets from elsewhere under a struct and then looks at its flags settles them first
+ *   (pruvelaccio_settle_...); the calls need none of that.
+ * - The stack has room: a thread with 96 KB is enough for every call.
  * - One table is changed by one thread at a time. The library keeps nothing between calls.
  */
 #ifndef PRUVELACCIO_H
@@ -35,6 +35,16 @@
 extern "C" {
 #else
 #define PRUVELACCIO_ASSERT(holds, words) _Static_assert(holds, words)
+#endif
+
+/* What neither the compiler nor the linker drops, though nothing uses it. */
+#if defined(__has_attribute)
+#if __has_attribute(retain)
+#define PRUVELACCIO_KEPT __attribute__((used, retain))
+#endif
+#endif
+#ifndef PRUVELACCIO_KEPT
+#define PRUVELACCIO_KEPT __attribute__((used))
 #endif
 
 /* Octets that no header, no header with its data, and no row of the listing exceeds. */
@@ -278,43 +288,11 @@ typedef struct pruvelaccio_table {
 #endif
 PRUVELACCIO_ASSERT(sizeof(bool) == 1 && sizeof(size_t) == 8, "a bool is one octet and a size is eight");
 #include "pruvelaccio_layout.h"
-PRUVELACCIO_ASSERT(sizeof(pruvelaccio_key) == 112, "size of a key");
-PRUVELACCIO_ASSERT(sizeof(pruvelaccio_row) == 1592, "size of a row");
-PRUVELACCIO_ASSERT(sizeof(pruvelaccio_table) == 50948, "size of a table");
 
 /*
- * The library's own functions: a record is a pointer to its octets, which need not be aligned; the table and
- * a key go by value; other octets are a pointer that is never NULL and a length. The calls further down are
- * easier to use.
- */
-
-typedef struct pruvelaccio_size_answer {
-    uint32_t number;
-    size_t place;
-    size_t length;
-} pruvelaccio_size_answer;
-
-typedef struct pruvelaccio_table_answer {
-    uint32_t number;
-    size_t place;
-    pruvelaccio_table table;
-} pruvelaccio_table_answer;
-
-pruvelaccio_size_answer pruvelaccio_read_octets(const uint8_t *datagram, size_t length, void *header);
-size_t pruvelaccio_data_start(const uint8_t *datagram, size_t length);
-pruvelaccio_size_answer pruvelaccio_check_octets(const void *header, size_t count);
-pruvelaccio_size_answer pruvelaccio_write_octets(const void *header, size_t count, uint8_t *out, size_t room);
-pruvelaccio_table pruvelaccio_empty_value(void);
-pruvelaccio_table_answer pruvelaccio_post_value(pruvelaccio_table table, const void *header, uint32_t number,
-                                                size_t count);
-pruvelaccio_table_answer pruvelaccio_receipt_value(pruvelaccio_table table, const void *header,
-                                                   uint32_t number, size_t count);
-pruvelaccio_table_answer pruvelaccio_release_value(pruvelaccio_table table, pruvelaccio_key key);
-pruvelaccio_size_answer pruvelaccio_list_row_value(pruvelaccio_table table, uint32_t number, uint8_t *out,
-                                                   size_t room);
-
-/*
- * The calls.
+ * The library's own functions: a record, a table and a key are pointers to their octets, which need not be
+ * aligned; other octets are a pointer that is never NULL and a length. The calls further down are easier to
+ * use.
  */
 
 /* Number 0: done. Otherwise a refusal; its place is a bit place, and 0 for all refusals but a reading's. */
@@ -322,6 +300,27 @@ typedef struct pruvelaccio_answer {
     uint32_t number;
     size_t place;
 } pruvelaccio_answer;
+
+typedef struct pruvelaccio_size_answer {
+    uint32_t number;
+    size_t place;
+    size_t length;
+} pruvelaccio_size_answer;
+
+pruvelaccio_size_answer pruvelaccio_read_octets(const uint8_t *datagram, size_t length, void *header);
+size_t pruvelaccio_data_start(const uint8_t *datagram, size_t length);
+pruvelaccio_size_answer pruvelaccio_check_octets(const void *header, size_t count);
+pruvelaccio_size_answer pruvelaccio_write_octets(const void *header, size_t count, uint8_t *out, size_t room);
+void pruvelaccio_empty_octets(void *table);
+pruvelaccio_answer pruvelaccio_post_octets(void *table, const void *header, uint32_t number, size_t count);
+pruvelaccio_answer pruvelaccio_receipt_octets(void *table, const void *header, uint32_t number, size_t count);
+pruvelaccio_answer pruvelaccio_release_octets(void *table, const void *key);
+pruvelaccio_size_answer pruvelaccio_list_row_octets(const void *table, uint32_t number, uint8_t *out,
+                                                    size_t room);
+
+/*
+ * The calls.
+ */
 
 /* What an answer's number means, in words. */
 static inline const char *pruvelaccio_meaning(uint32_t number)
@@ -372,17 +371,6 @@ static inline pruvelaccio_answer pruvelaccio_take_size(pruvelaccio_size_answer g
     return answer;
 }
 
-/* The answer of a call on the table; the table is stored where the call was done. */
-static inline pruvelaccio_answer pruvelaccio_take_table(const pruvelaccio_table_answer *got,
-                                                        pruvelaccio_table *table)
-{
-    pruvelaccio_answer answer = {got->number, got->place};
-    if (got->number == 0) {
-        *table = got->table;
-    }
-    return answer;
-}
-
 /*
  * Reads a datagram into the record where it lies. Done, every octet of the record is determined: flags are 0
  * or 1, unused cells and the octets between the cells are 0. Refused, the record is as it was. The length is
@@ -391,12 +379,8 @@ static inline pruvelaccio_answer pruvelaccio_take_table(const pruvelaccio_table_
 static inline pruvelaccio_answer pruvelaccio_read(const uint8_t *datagram, size_t length,
                                                   pruvelaccio_header *header, size_t *header_length)
 {
-    const pruvelaccio_size_answer got = pruvelaccio_read_octets(pruvelaccio_lent(datagram), length, header);
-    pruvelaccio_answer answer = {got.number, got.place};
-    if (got.number == 0 && header_length != NULL) {
-        *header_length = got.length;
-    }
-    return answer;
+    return pruvelaccio_take_size(pruvelaccio_read_octets(pruvelaccio_lent(datagram), length, header),
+                                 header_length);
 }
 
 /*
@@ -429,34 +413,45 @@ static inline pruvelaccio_answer pruvelaccio_write(const pruvelaccio_header *hea
     return pruvelaccio_take_size(pruvelaccio_write_octets(header, count, lent, room), written);
 }
 
-/* Makes a table with no row. */
+/* Makes a table with no row: every octet 0. */
 static inline void pruvelaccio_empty(pruvelaccio_table *table)
 {
-    *table = pruvelaccio_empty_value();
+    pruvelaccio_empty_octets(table);
 }
 
-/* Posts block `number` of a record, counted from 1; `count` is the datagram's octets of user data. */
+/*
+ * The three calls that change a table do it where it lies. Refused, every octet of it is as it was, whatever
+ * octets they are. Done, every octet is determined: so tables that were made empty and have the same rows are
+ * the same octets.
+ */
+
+/*
+ * Posts block `number` of a record, counted from 1; `count` is the datagram's octets of user data. Done, the
+ * rows behind the new one are moved up whole, and the new one has 0 in unused cells and between the cells.
+ */
 static inline pruvelaccio_answer pruvelaccio_post(pruvelaccio_table *table, const pruvelaccio_header *header,
                                                   uint32_t number, size_t count)
 {
-    const pruvelaccio_table_answer got = pruvelaccio_post_value(*table, header, number, count);
-    return pruvelaccio_take_table(&got, table);
+    return pruvelaccio_post_octets(table, header, number, count);
 }
 
-/* Settles what block `number` of a record answers. */
+/* Settles what block `number` of a record answers. Done, the codes of one recipient alone change. */
 static inline pruvelaccio_answer pruvelaccio_receipt(pruvelaccio_table *table,
                                                      const pruvelaccio_header *header, uint32_t number,
                                                      size_t count)
 {
-    const pruvelaccio_table_answer got = pruvelaccio_receipt_value(*table, header, number, count);
-    return pruvelaccio_take_table(&got, table);
+    return pruvelaccio_receipt_octets(table, header, number, count);
 }
 
-/* Takes the row with a key out of the table. */
+/*
+ * Takes the row with a key out of the table. Done, the rows behind it are moved down whole, and the octets of
+ * the last one's place are 0. The key is copied first, so that it may be a key of the table itself.
+ */
 static inline pruvelaccio_answer pruvelaccio_release(pruvelaccio_table *table, const pruvelaccio_key *key)
 {
-    const pruvelaccio_table_answer got = pruvelaccio_release_value(*table, *key);
-    return pruvelaccio_take_table(&got, table);
+    unsigned char copy[PRUVELACCIO_KEY_OCTETS];
+    memcpy(copy, key, sizeof(copy));
+    return pruvelaccio_release_octets(table, copy);
 }
 
 /*
@@ -469,33 +464,17 @@ static inline pruvelaccio_answer pruvelaccio_list_row(const pruvelaccio_table *t
 {
     uint8_t none = 0;
     uint8_t *lent = out != NULL ? out : &none;
-    return pruvelaccio_take_size(pruvelaccio_list_row_value(*table, number, lent, room), written);
+    return pruvelaccio_take_size(pruvelaccio_list_row_octets(table, number, lent, room), written);
 }
 
 /*
- * Structs from octets that come from outside, as from a file or from shared memory, in the struct's own
- * layout. A loader tests the size; for a table and a key it tests also that every flag is 0 or 1, those of
- * unused cells too. If so it stores the struct and returns true; otherwise it stores nothing and returns
- * false. A record's flags need no test: each that is not 0 becomes 1, so that C can look at it. What the
- * struct says is not judged here: that is done by each call.
+ * Flags of octets that come from outside. The library takes every octet but 0 for a set flag; C takes a bool
+ * to hold 0 or 1. Settling makes each flag that is not 0 a 1, in unused cells too, and changes nothing else.
  */
 
-/*
- * Each octet is fetched once, and what is tested is what is stored: memory that another process changes
- * meanwhile cannot slip a bad flag in between the two.
- */
-static inline void pruvelaccio_fetch(unsigned char *copy, const void *octets, size_t size)
-{
-    const volatile unsigned char *from = (const volatile unsigned char *)octets;
-    for (size_t i = 0; i < size; i++) {
-        copy[i] = from[i];
-    }
-}
-
-/* How many flags a list of them, or of their offsets, names. */
+/* How many flags a list of them names. */
 #define PRUVELACCIO_FLAGS(list) (sizeof(list) / sizeof((list)[0]))
 
-/* A flag is set unless its octet is 0; a bool of C that is set holds 1. */
 static inline void pruvelaccio_settle(bool *flag)
 {
     unsigned char *octet = (unsigned char *)flag;
@@ -525,6 +504,13 @@ static inline void pruvelaccio_settle_references(pruvelaccio_optional_references
     }
 }
 
+static inline void pruvelaccio_settle_requests(pruvelaccio_requests *requests)
+{
+    pruvelaccio_settle(&requests->machine);
+    pruvelaccio_settle(&requests->acknowledge);
+    pruvelaccio_settle(&requests->reply);
+}
+
 static inline void pruvelaccio_settle_block(pruvelaccio_block *block)
 {
     bool *const flags[] = {
@@ -538,9 +524,6 @@ static inline void pruvelaccio_settle_block(pruvelaccio_block *block)
         &block->times.origin.stamp.extension.present,
         &block->times.perish.present,
         &block->times.requests.present,
-        &block->times.requests.requests.machine,
-        &block->times.requests.requests.acknowledge,
-        &block->times.requests.requests.reply,
         &block->response.present,
         &block->response.response.stamp.extension.present,
         &block->response.response.compliance.cantco.present,
@@ -550,10 +533,11 @@ static inline void pruvelaccio_settle_block(pruvelaccio_block *block)
     for (size_t i = 0; i < PRUVELACCIO_FLAGS(flags); i++) {
         pruvelaccio_settle(flags[i]);
     }
+    pruvelaccio_settle_requests(&block->times.requests.requests);
     pruvelaccio_settle_references(&block->references);
 }
 
-static inline void pruvelaccio_settle_header(pruvelaccio_header *header)
+static inline void pruvelaccio_settle_record(pruvelaccio_header *header)
 {
     pruvelaccio_settle(&header->front.compression.present);
     pruvelaccio_settle(&header->front.originator.present);
@@ -566,97 +550,143 @@ static inline void pruvelaccio_settle_header(pruvelaccio_header *header)
     }
 }
 
-static inline bool pruvelaccio_load_header(pruvelaccio_header *to, const void *octets, size_t size)
+static inline void pruvelaccio_settle_key(pruvelaccio_key *key)
 {
-    if (size != sizeof(*to)) {
-        return false;
+    pruvelaccio_settle_address(&key->address);
+    pruvelaccio_settle(&key->stamp.extension.present);
+}
+
+static inline void pruvelaccio_settle_row(pruvelaccio_row *row)
+{
+    pruvelaccio_settle_key(&row->key);
+    pruvelaccio_settle_requests(&row->asked);
+    for (size_t i = 0; i < PRUVELACCIO_ADDRESSEES; i++) {
+        pruvelaccio_settle_address(&row->recipients[i].address);
     }
-    pruvelaccio_fetch((unsigned char *)to, octets, sizeof(*to));
-    pruvelaccio_settle_header(to);
-    return true;
+}
+
+static inline void pruvelaccio_settle_table(pruvelaccio_table *table)
+{
+    for (size_t i = 0; i < PRUVELACCIO_ROWS; i++) {
+        pruvelaccio_settle_row(&table->rows[i]);
+    }
 }
 
 /*
- * Whether the flags at the given offsets hold 0 or 1 in each of `count` structs that stand one behind the
- * other, `stride` octets apart.
+ * Records and tables as they are kept in a file: the number of the layout, four octets with the low one
+ * first, then the struct's own octets. The Rust crate writes and reads the same.
  */
-static inline bool pruvelaccio_flags_hold(const unsigned char *octets, size_t count, size_t stride,
-                                          const size_t *offsets, size_t flags)
+#define PRUVELACCIO_NUMBER_OCTETS 4
+#define PRUVELACCIO_SAVED_RECORD_OCTETS (PRUVELACCIO_NUMBER_OCTETS + PRUVELACCIO_RECORD_OCTETS)
+#define PRUVELACCIO_SAVED_TABLE_OCTETS (PRUVELACCIO_NUMBER_OCTETS + PRUVELACCIO_TABLE_OCTETS)
+
+/* What saving and loading answer. Whatever is not done stores nothing. */
+typedef enum pruvelaccio_saved {
+    PRUVELACCIO_SAVED_DONE = 0,
+    PRUVELACCIO_SAVED_NO_ROOM = 1,
+    PRUVELACCIO_SAVED_OTHER_LAYOUT = 2,
+    PRUVELACCIO_SAVED_OTHER_SIZE = 3
+} pruvelaccio_saved;
+
+/* The same in words. */
+static inline const char *pruvelaccio_saved_meaning(pruvelaccio_saved answer)
 {
-    for (size_t i = 0; i < count * flags; i++) {
-        if (octets[i / flags * stride + offsets[i % flags]] > 1) {
-            return false;
-        }
+    switch (answer) {
+    case PRUVELACCIO_SAVED_DONE: return "done";
+    case PRUVELACCIO_SAVED_NO_ROOM: return "the output has too little room";
+    case PRUVELACCIO_SAVED_OTHER_LAYOUT: return "the octets were saved with another layout";
+    case PRUVELACCIO_SAVED_OTHER_SIZE: return "the octets are not as many as were saved";
     }
-    return true;
+    return "unknown";
 }
 
-/* Addresses that stand `stride` octets apart: one alone, or at the head of each recipient. */
-static inline bool pruvelaccio_flags_of_addresses(const unsigned char *octets, size_t count, size_t stride)
+/* The number and the struct's octets, those between its cells as they are. */
+static inline pruvelaccio_saved pruvelaccio_save(const void *from, size_t octets, uint8_t *out, size_t room,
+                                                 size_t *written)
 {
-    static const size_t offsets[] = {
-        offsetof(pruvelaccio_address, urn.present),
-        offsetof(pruvelaccio_address, name.present),
-    };
-    return pruvelaccio_flags_hold(octets, count, stride, offsets, PRUVELACCIO_FLAGS(offsets));
+    if (room < PRUVELACCIO_NUMBER_OCTETS + octets) {
+        return PRUVELACCIO_SAVED_NO_ROOM;
+    }
+    for (size_t i = 0; i < PRUVELACCIO_NUMBER_OCTETS; i++) {
+        out[i] = (uint8_t)((uint32_t)PRUVELACCIO_LAYOUT >> (8 * i));
+    }
+    memcpy(out + PRUVELACCIO_NUMBER_OCTETS, from, octets);
+    if (written != NULL) {
+        *written = PRUVELACCIO_NUMBER_OCTETS + octets;
+    }
+    return PRUVELACCIO_SAVED_DONE;
 }
 
-static inline bool pruvelaccio_flags_of_key(const unsigned char *key)
+/* Saves a record or a table to the first octets of the output, and tells how many they are. */
+static inline pruvelaccio_saved pruvelaccio_save_record(const pruvelaccio_header *header, uint8_t *out,
+                                                        size_t room, size_t *written)
 {
-    return pruvelaccio_flags_of_addresses(key + offsetof(pruvelaccio_key, address), 1, 0) &&
-           key[offsetof(pruvelaccio_key, stamp.extension.present)] <= 1;
+    return pruvelaccio_save(header, PRUVELACCIO_RECORD_OCTETS, out, room, written);
 }
 
-static inline bool pruvelaccio_flags_of_row(const unsigned char *row)
+static inline pruvelaccio_saved pruvelaccio_save_table(const pruvelaccio_table *table, uint8_t *out,
+                                                       size_t room, size_t *written)
 {
-    static const size_t offsets[] = {
-        offsetof(pruvelaccio_row, asked.machine),
-        offsetof(pruvelaccio_row, asked.acknowledge),
-        offsetof(pruvelaccio_row, asked.reply),
-    };
-    const size_t addresses = offsetof(pruvelaccio_row, recipients) + offsetof(pruvelaccio_recipient, address);
-    return pruvelaccio_flags_of_key(row + offsetof(pruvelaccio_row, key)) &&
-           pruvelaccio_flags_hold(row, 1, 0, offsets, PRUVELACCIO_FLAGS(offsets)) &&
-           pruvelaccio_flags_of_addresses(row + addresses, PRUVELACCIO_ADDRESSEES,
-                                          sizeof(pruvelaccio_recipient));
+    return pruvelaccio_save(table, PRUVELACCIO_TABLE_OCTETS, out, room, written);
 }
 
-static inline bool pruvelaccio_flags_of_table(const unsigned char *table)
+/*
+ * Whether saved octets can be loaded. The number comes before the size, since another layout has another
+ * size: whoever is told of one should be told the reason.
+ */
+static inline pruvelaccio_saved pruvelaccio_loadable(const void *octets, size_t size, size_t expected)
 {
-    const unsigned char *rows = table + offsetof(pruvelaccio_table, rows);
-    bool hold = true;
-    for (size_t i = 0; hold && i < PRUVELACCIO_ROWS; i++) {
-        hold = pruvelaccio_flags_of_row(rows + i * sizeof(pruvelaccio_row));
+    const unsigned char *from = (const unsigned char *)octets;
+    uint32_t number = 0;
+    if (size < PRUVELACCIO_NUMBER_OCTETS) {
+        return PRUVELACCIO_SAVED_OTHER_SIZE;
     }
-    return hold;
+    for (size_t i = 0; i < PRUVELACCIO_NUMBER_OCTETS; i++) {
+        number |= (uint32_t)from[i] << (8 * i);
+    }
+    if (number != PRUVELACCIO_LAYOUT) {
+        return PRUVELACCIO_SAVED_OTHER_LAYOUT;
+    }
+    return size == PRUVELACCIO_NUMBER_OCTETS + expected ? PRUVELACCIO_SAVED_DONE
+                                                        : PRUVELACCIO_SAVED_OTHER_SIZE;
 }
 
-static inline bool pruvelaccio_load_table(pruvelaccio_table *to, const void *octets, size_t size)
+/*
+ * Each octet behind the number is fetched once, and flags are settled in what was fetched: memory that
+ * another process changes meanwhile cannot slip a bad flag in between the two.
+ */
+static inline void pruvelaccio_fetch(void *to, const void *octets, size_t size)
 {
-    unsigned char copy[sizeof(pruvelaccio_table)];
-    if (size != sizeof(copy)) {
-        return false;
+    const volatile unsigned char *from = (const volatile unsigned char *)octets + PRUVELACCIO_NUMBER_OCTETS;
+    unsigned char *copy = (unsigned char *)to;
+    for (size_t i = 0; i < size; i++) {
+        copy[i] = from[i];
     }
-    pruvelaccio_fetch(copy, octets, sizeof(copy));
-    if (!pruvelaccio_flags_of_table(copy)) {
-        return false;
-    }
-    memcpy(to, copy, sizeof(copy));
-    return true;
 }
 
-static inline bool pruvelaccio_load_key(pruvelaccio_key *to, const void *octets, size_t size)
+/*
+ * Loads a record or a table from all the octets that were saved, its flags settled. What the struct says is
+ * not judged here: that is done by each call.
+ */
+static inline pruvelaccio_saved pruvelaccio_load_record(pruvelaccio_header *to, const void *octets,
+                                                        size_t size)
 {
-    unsigned char copy[sizeof(pruvelaccio_key)];
-    if (size != sizeof(copy)) {
-        return false;
+    const pruvelaccio_saved answer = pruvelaccio_loadable(octets, size, PRUVELACCIO_RECORD_OCTETS);
+    if (answer == PRUVELACCIO_SAVED_DONE) {
+        pruvelaccio_fetch(to, octets, PRUVELACCIO_RECORD_OCTETS);
+        pruvelaccio_settle_record(to);
     }
-    pruvelaccio_fetch(copy, octets, sizeof(copy));
-    if (!pruvelaccio_flags_of_key(copy)) {
-        return false;
+    return answer;
+}
+
+static inline pruvelaccio_saved pruvelaccio_load_table(pruvelaccio_table *to, const void *octets, size_t size)
+{
+    const pruvelaccio_saved answer = pruvelaccio_loadable(octets, size, PRUVELACCIO_TABLE_OCTETS);
+    if (answer == PRUVELACCIO_SAVED_DONE) {
+        pruvelaccio_fetch(to, octets, PRUVELACCIO_TABLE_OCTETS);
+        pruvelaccio_settle_table(to);
     }
-    memcpy(to, copy, sizeof(copy));
-    return true;
+    return answer;
 }
 
 #ifdef __cplusplus
@@ -665,5 +695,6 @@ static inline bool pruvelaccio_load_key(pruvelaccio_key *to, const void *octets,
 
 #undef PRUVELACCIO_ASSERT
 #undef PRUVELACCIO_FLAGS
+#undef PRUVELACCIO_KEPT
 
 #endif

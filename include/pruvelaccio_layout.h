@@ -1,11 +1,26 @@
 /*
- * The layout of a record's octets, asserted of the structs of pruvelaccio.h, which includes this file behind
- * them: the place of each field, counted from its struct's first octet, its octets, and the octets of each
- * struct. The library reads and fills a record by these numbers; a compiler that lays a struct out otherwise
- * stops here. Written by layout/generate.py.
+ * The layout of the octets of a record and of a table: its number, and its places, asserted of the structs
+ * of pruvelaccio.h, which includes this file behind them: the place of each field, counted from its struct's
+ * first octet, its octets, and the octets of each struct. The library reads and changes what it is lent by
+ * these numbers; a compiler that lays a struct out otherwise stops here. Written by layout/generate.py.
  */
 #ifndef PRUVELACCIO_LAYOUT_H
 #define PRUVELACCIO_LAYOUT_H
+
+/* The number of this layout. Saved octets begin with it. */
+#define PRUVELACCIO_LAYOUT 1
+
+/*
+ * The library's mark of the same number. Every file that includes this header asks for it, so that a program
+ * and a library of different layouts do not link.
+ */
+uint32_t pruvelaccio_layout_1(void);
+static uint32_t (*const pruvelaccio_layout_mark)(void) PRUVELACCIO_KEPT = pruvelaccio_layout_1;
+
+/* The octets of what is lent to the library. */
+#define PRUVELACCIO_RECORD_OCTETS 16312
+#define PRUVELACCIO_TABLE_OCTETS 50948
+#define PRUVELACCIO_KEY_OCTETS 112
 
 #define PRUVELACCIO_STRUCT(type, octets) \
     PRUVELACCIO_ASSERT(sizeof(pruvelaccio_##type) == octets, "octets of " #type)

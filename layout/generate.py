@@ -1,20 +1,31 @@
 #!/usr/bin/env python3
 """Writes everything that follows from the layout of the octets of a record and of a table of pending messages, from the one table of
 structs below: the constants that the code slices by, what the octets mean and the octets of a value with their laws
-(crates/record_octets, crates/table_octets), the places that the C header asserts (include/pruvelaccio_layout.h), and docs/LAYOUT.md.
-No place is written by hand anywhere.
+(crates/record_octets, crates/table_octets), the places that the C header asserts and the mark of the layout's number (include/pruvelaccio_layout.h,
+host/pruvelaccio/src/layout.rs), and docs/LAYOUT.md. No place is written by hand anywhere.
 
     layout/generate.py           writes the files
     layout/generate.py --check   fails where a file is not what the table gives
+
+Either fails, and writes nothing, where the table of structs has changed and LAYOUT has not been raised.
 
 The layout is that of the #[repr(C)] structs of crates/text, crates/optional, crates/header, crates/order and crates/table: a number is four
 octets, the low one first; a flag is one octet, set unless it is 0; the characters of a text are one octet each. A flag in front of a number
 has three octets behind it that nothing uses, and the requests of a row have one.
 """
+import hashlib
 import os
 import sys
 
 ROOT = os.path.join(os.path.dirname(os.path.abspath(__file__)), "..")
+
+# The number of the layout. The library exports a symbol with this number, every program that is built against the C header or the Rust crate
+# asks for it, and what is saved begins with it: so octets of one layout are never taken for octets of another. A change of the structs below
+# raises it by one, and the digest of the new table of structs goes behind the others; a digest that stands here never changes.
+LAYOUT = 1
+DIGESTS = {
+    1: "02ccf88a077665bee8d5a201bf55f1a229fb4a98022a76206aec1126142f9b16",
+}
 
 # kind: octets, meaning, octets of a value, words
 LEAVES = {
@@ -95,6 +106,26 @@ def places(name):
         found.append((field, kind, at, size(kind)))
         at += size(kind)
     return found
+
+
+# ---------------------------------------------------------------- the number of the layout
+
+def digest():
+    """of all that says where an octet of a struct stands and what it is; which crate declares a struct says nothing of that"""
+    text = ""
+    for name, _, _ in STRUCTS:
+        text += "%s %d\n" % (name, size(name))
+        for field, kind, at, n in places(name):
+            text += "%s %s %d %d\n" % (field, kind_words(kind), at, n)
+    return hashlib.sha256(text.encode("utf-8")).hexdigest()
+
+
+def unraised():
+    """why the number does not belong to the structs, in words; nothing where it does"""
+    if DIGESTS.get(LAYOUT) == digest() and LAYOUT == max(DIGESTS):
+        return None
+    return "layout/generate.py: the table of structs is not that of layout %d: raise LAYOUT, and put this line behind the other digests:\n    %d: \"%s\"," % (
+        LAYOUT, max(DIGESTS) + 1, digest())
 
 
 # ---------------------------------------------------------------- crates/record_octets: constants
@@ -192,6 +223,9 @@ use mathlib.Core.List.{List, _++_}
         out += "%sIn s = record { %s }\n" % (low(name), "; ".join("%s = %s" % (f, meaning(k, at, n)) for f, k, at, n in held_fields(name)))
         out += "\nunfoldable pub %sOctets : %s → List ℕ\n" % (low(name), name)
         out += "%sOctets x = %s\n" % (low(name), " ++ ".join(image(k, f) for f, k in fields))
+        if structs is TABLE:
+            for field, _, at, _ in held_fields(name):
+                out += "\nabbrev pub at%s%s : ℕ\nat%s%s = %d\n" % (name, field.capitalize(), name, field.capitalize(), at)
         for field, kind, _, _ in places(name):
             if isinstance(kind, tuple):
                 out += "\nabbrev pub sizeOf%s%s : ℕ\nsizeOf%s%s = %d\n" % (name, field.capitalize(), name, field.capitalize(), size(kind))
@@ -351,26 +385,68 @@ use Rattle.cells.specs.Cells.{Each}
 
 def c_asserts():
     out = """/*
- * The layout of a record's octets, asserted of the structs of pruvelaccio.h, which includes this file behind
- * them: the place of each field, counted from its struct's first octet, its octets, and the octets of each
- * struct. The library reads and fills a record by these numbers; a compiler that lays a struct out otherwise
- * stops here. Written by layout/generate.py.
+ * The layout of the octets of a record and of a table: its number, and its places, asserted of the structs
+ * of pruvelaccio.h, which includes this file behind them: the place of each field, counted from its struct's
+ * first octet, its octets, and the octets of each struct. The library reads and changes what it is lent by
+ * these numbers; a compiler that lays a struct out otherwise stops here. Written by layout/generate.py.
  */
 #ifndef PRUVELACCIO_LAYOUT_H
 #define PRUVELACCIO_LAYOUT_H
+
+/* The number of this layout. Saved octets begin with it. */
+#define PRUVELACCIO_LAYOUT %(n)d
+
+/*
+ * The library's mark of the same number. Every file that includes this header asks for it, so that a program
+ * and a library of different layouts do not link.
+ */
+uint32_t pruvelaccio_layout_%(n)d(void);
+static uint32_t (*const pruvelaccio_layout_mark)(void) PRUVELACCIO_KEPT = pruvelaccio_layout_%(n)d;
+
+/* The octets of what is lent to the library. */
+#define PRUVELACCIO_RECORD_OCTETS %(record)d
+#define PRUVELACCIO_TABLE_OCTETS %(table)d
+#define PRUVELACCIO_KEY_OCTETS %(key)d
 
 #define PRUVELACCIO_STRUCT(type, octets) \\
     PRUVELACCIO_ASSERT(sizeof(pruvelaccio_##type) == octets, "octets of " #type)
 #define PRUVELACCIO_FIELD(type, field, place, octets)                                               \\
     PRUVELACCIO_ASSERT(offsetof(pruvelaccio_##type, field) == place, "place of " #type "." #field); \\
     PRUVELACCIO_ASSERT(sizeof(((pruvelaccio_##type *)0)->field) == octets, "octets of " #type "." #field)
-"""
+""" % {"n": LAYOUT, "record": size("Header"), "table": size("Table"), "key": size("Key")}
     for name, _, _ in STRUCTS:
         out += "\nPRUVELACCIO_STRUCT(%s, %d);\n" % (snake(name), size(name))
         for field, kind, at, octets in held_fields(name):
             # the three octets behind a mark are padding in C
             out += "PRUVELACCIO_FIELD(%s, %s, %d, %d);\n" % (snake(name), field, at, 1 if kind == "mark" else octets)
     out += "\n#undef PRUVELACCIO_STRUCT\n#undef PRUVELACCIO_FIELD\n\n#endif\n"
+    return out
+
+
+# ---------------------------------------------------------------- host/pruvelaccio/src/layout.rs
+
+def grouped(number):
+    return format(number, "_")
+
+
+def rust_mark():
+    out = """//! The number of the layout, the octets of the structs that go over to the library, and the mark that ties a program to a library of the same
+//! layout. Written by layout/generate.py.
+
+/// The number of the layout. Saved octets begin with it.
+pub const LAYOUT: u32 = %d;
+""" % LAYOUT
+    for constant, name, words in [("RECORD", "Header", "a record"), ("TABLE", "Table", "a table"), ("KEY", "Key", "a key")]:
+        out += "\n/// The octets of %s.\npub const %s: usize = %s;\n" % (words, constant, grouped(size(name)))
+    out += """
+extern "C" {
+    /// The library's mark of the same number: a library of another layout has another name there, and does not link.
+    pub fn pruvelaccio_layout_%(n)d() -> u32;
+}
+
+#[used]
+static MARK: unsafe extern "C" fn() -> u32 = pruvelaccio_layout_%(n)d;
+""" % {"n": LAYOUT}
     return out
 
 
@@ -389,6 +465,8 @@ Written by `layout/generate.py` from its table of structs; `layout/generate.py -
 constants of `crates/record_octets` and `crates/table_octets`, their definitions and laws, or the places that
 `include/pruvelaccio_layout.h` asserts are not what that table gives.
 
+This is layout %d. The library exports its number, a program of another layout does not link with it, and what is saved begins with it.
+
 A record is %s octets. Any octets are some record: `headerIn` of `crates/record_octets/specs/Record.antt` says which one. A number is four
 octets, the low one first. A flag is one octet, set unless it is 0. A character is one octet. What a record holds where nothing is
 present, and behind a count, is unused and carries no meaning; neither do the octets between a flag and the number behind it. A record
@@ -399,7 +477,7 @@ which one, and `keyIn` which key. What lies behind a count carries no meaning.
 
 The places below count from the struct's own first octet. The structs are those of `crates/table`, `crates/order`, `crates/header`,
 `crates/text` and `crates/optional`, of `include/pruvelaccio.h` and of the Rust crate.
-""" % tuple(format(size(name), ",") for name in ("Header", "Table", "Key"))
+""" % ((LAYOUT,) + tuple(format(size(name), ",") for name in ("Header", "Table", "Key")))
     for name, _, _ in reversed(STRUCTS):
         out += "\n## %s: %s octets\n\n| field | place | octets | kind |\n|---|---|---|---|\n" % (name, format(size(name), ","))
         for field, kind, at, n in places(name):
@@ -421,11 +499,15 @@ FILES = {
     "crates/table_octets/proofs/Back.antt": lambda: back_proofs(TABLE, "table_octets", "Table"),
     "crates/table_octets/proofs/Declared.antt": lambda: declared_proofs(TABLE, "table_octets"),
     "include/pruvelaccio_layout.h": c_asserts,
+    "host/pruvelaccio/src/layout.rs": rust_mark,
     "docs/LAYOUT.md": layout_doc,
 }
 
 
 def main():
+    if unraised():
+        print(unraised())
+        return 1
     wrong = []
     for path, text in FILES.items():
         full = os.path.join(ROOT, path)

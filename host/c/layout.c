@@ -170,14 +170,13 @@ static void pending(void)
 /* What the library's own functions answer. */
 static void answers(void)
 {
+    SIZE(answer);
+    FIELD(answer, number);
+    FIELD(answer, place);
     SIZE(size_answer);
     FIELD(size_answer, number);
     FIELD(size_answer, place);
     FIELD(size_answer, length);
-    SIZE(table_answer);
-    FIELD(table_answer, number);
-    FIELD(table_answer, place);
-    FIELD(table_answer, table);
 }
 
 int main(void)

@@ -1,8 +1,8 @@
 /*
- * Thousands of records of octets, half of them any octets, half those of a valid record with 1 to 8 replaced, and
- * damaged datagrams, through every call that takes a record. Each block of memory is as long as the call may touch and
- * no longer, so that under valgrind an octet read or written outside, or read before it was set, is reported. What the
- * calls answer is compared elsewhere (host/compare).
+ * Thousands of records of octets, half of them any octets, half those of a valid record with 1 to 8 replaced, damaged
+ * datagrams, and tables and keys of either kind, through every call that takes one. Each block of memory is as long as
+ * the call may touch and no longer, so that under valgrind an octet read or written outside, or read before it was set,
+ * is reported. What the calls answer is compared elsewhere (host/compare).
  */
 #include <stdint.h>
 #include <stdio.h>
@@ -51,6 +51,14 @@ static void damage(unsigned char *octets, size_t size)
     }
 }
 
+/* Any octets, most of them 0. */
+static void fill_any(unsigned char *octets, size_t size)
+{
+    for (size_t i = 0; i < size; i++) {
+        octets[i] = (unsigned char)(any(4) == 0 ? any(256) : 0);
+    }
+}
+
 /* A record of octets: any, or a valid record's with some replaced. */
 static void fill(unsigned char *record, int valid)
 {
@@ -60,8 +68,36 @@ static void fill(unsigned char *record, int valid)
         damage(record, sizeof(pruvelaccio_header));
         return;
     }
-    for (size_t i = 0; i < sizeof(pruvelaccio_header); i++) {
-        record[i] = (unsigned char)(any(4) == 0 ? any(256) : 0);
+    fill_any(record, sizeof(pruvelaccio_header));
+}
+
+/* A table of octets: any, or one with some rows, of which some octets are replaced every other time. */
+static void fill_table(unsigned char *table, pruvelaccio_header *record)
+{
+    if (any(4) == 0) {
+        fill_any(table, sizeof(pruvelaccio_table));
+        return;
+    }
+    pruvelaccio_empty_octets(table);
+    for (uint32_t rows = any(4); rows > 0; rows--) {
+        record->front.originator.address.urn.value = rows;
+        (void)pruvelaccio_post_octets(table, record, 1, 1);
+    }
+    if (any(2) == 0) {
+        damage(table, any(2) == 0 ? 2 * sizeof(pruvelaccio_row) : sizeof(pruvelaccio_table));
+    }
+}
+
+/* A key of octets: any, or that of the table's first row, of which some octets are replaced every other time. */
+static void fill_key(unsigned char *key, const unsigned char *table)
+{
+    if (any(4) == 0) {
+        fill_any(key, sizeof(pruvelaccio_key));
+        return;
+    }
+    memcpy(key, table, sizeof(pruvelaccio_key));
+    if (any(2) == 0) {
+        damage(key, sizeof(pruvelaccio_key));
     }
 }
 
@@ -98,11 +134,36 @@ static unsigned read_damaged(void)
     return answers;
 }
 
+/* A table, a key and an output, each in a block of its own. */
+static unsigned calls_on_a_table(void)
+{
+    size_t room = any(64), length;
+    unsigned char *table = block(sizeof(pruvelaccio_table));
+    unsigned char *key = block(sizeof(pruvelaccio_key));
+    pruvelaccio_header *record = block(sizeof(*record));
+    uint8_t *out = block(room);
+    (void)pruvelaccio_read(SAMPLE, sizeof(SAMPLE), record, &length);
+    fill_table(table, record);
+    fill_key(key, table);
+    memset(out, 0x5A, room);
+    unsigned answers = pruvelaccio_list_row_octets(table, any(3), out, room).number;
+    answers += sum(out, room);
+    answers += pruvelaccio_post_octets(table, record, 1, 1).number;
+    answers += pruvelaccio_receipt_octets(table, record, 1, 0).number;
+    answers += pruvelaccio_release_octets(table, key).number;
+    answers += sum(table, sizeof(pruvelaccio_table)) + sum(key, sizeof(pruvelaccio_key));
+    free(out);
+    free(record);
+    free(key);
+    free(table);
+    return answers;
+}
+
 int main(int count, char **words)
 {
     long rounds = count > 1 ? strtol(words[1], NULL, 10) : 1000;
     unsigned total = 0;
-    pruvelaccio_table table;
+    static pruvelaccio_table table;
     pruvelaccio_empty(&table);
     for (long i = 0; i < rounds; i++) {
         pruvelaccio_header *record = block(sizeof(*record));
@@ -110,7 +171,9 @@ int main(int count, char **words)
         total += calls(record, &table);
         free(record);
         total += read_damaged();
+        total += i % 4 == 0 ? calls_on_a_table() : 0;
     }
-    printf("%ld records of octets and datagrams, sum of the answers %u\n", rounds, total);
+    printf("%ld records of octets and datagrams, and a quarter as many tables, sum of the answers %u\n", rounds,
+           total);
     return 0;
 }

@@ -11,10 +11,11 @@
 
 #include "pruvelaccio.h"
 
-/* Memory that no call may take for something of its own. As a record it is some record: every flag is set. */
+/*
+ * Memory that no call may take for something of its own. As a record, a table or a key it is one: every flag is
+ * set.
+ */
 #define PATTERN 0xA5
-/* A pattern that a struct by value may hold: every flag is 1, and every number 16,843,009. */
-#define ONES 0x01
 
 #define GUARD 64
 #define PAGE 4096
@@ -172,7 +173,6 @@ static void nothing_else_changed(call made, const char *what)
 static void set_up(void)
 {
     memset(&now, PATTERN, sizeof(now));
-    memset(&now.key, ONES, sizeof(now.key));
     pruvelaccio_empty(&now.table);
     pruvelaccio_read(message, sizeof(message), &now.header, NULL);
     room = sizeof(now.out);
@@ -408,20 +408,75 @@ static void writing(void)
  * The table.
  */
 
-/* A table of ones has 16,843,009 rows, and every call refuses it first. */
-static void tables_refused(call made)
+/* How a table becomes one that every call refuses first. */
+static void count_33(pruvelaccio_table *table)
 {
-    set_up();
-    memset(&now.table, ONES, sizeof(now.table));
-    refused_at_0(made, "a table of too many rows", 1, MESSAGE_DATA, 30);
+    table->count = PRUVELACCIO_ROWS + 1;
 }
 
-/* The table changed, and nothing else. */
-static void table_alone(call made, const char *what, uint32_t rows)
+static void pattern_all(pruvelaccio_table *table)
 {
-    expect(made.name, what, now.table.count == rows);
-    memcpy(&before.table, &now.table, sizeof(now.table));
-    nothing_else_changed(made, what);
+    memset(table, PATTERN, sizeof(*table));
+}
+
+static void ask_nothing(pruvelaccio_table *table)
+{
+    table->rows[0].asked.machine = false;
+}
+
+static void misfit_code(pruvelaccio_table *table)
+{
+    table->rows[0].recipients[0].machine = 0xA5A5A5A5;
+}
+
+static void crowd(pruvelaccio_table *table)
+{
+    table->rows[0].count = PRUVELACCIO_ADDRESSEES + 1;
+}
+
+typedef struct table_case {
+    const char *what;
+    void (*spoil)(pruvelaccio_table *table);
+} table_case;
+
+static const table_case table_cases[] = {
+    {"every octet a pattern", pattern_all}, {"33 rows", count_33},         {"nothing asked", ask_nothing},
+    {"a code that does not fit", misfit_code}, {"17 recipients", crowd},
+};
+
+static void tables_refused(call made)
+{
+    for (size_t i = 0; i < LENGTH(table_cases); i++) {
+        set_up_receipt();
+        table_cases[i].spoil(&now.table);
+        refused_at_0(made, table_cases[i].what, 1, MESSAGE_DATA, 30);
+    }
+}
+
+/* Every octet that an empty table had loses the pattern that was there. */
+static void emptying(void)
+{
+    memset(&now, PATTERN, sizeof(now));
+    memcpy(&before, &now, sizeof(now));
+    pruvelaccio_empty(&now.table);
+    memset(&before.table, 0, sizeof(before.table));
+    expect("empty", "every octet of the table and no other", memcmp(&now, &before, sizeof(now)) == 0);
+}
+
+/* The row that B makes, composed here; what it does not use is 0. */
+static pruvelaccio_row row_of_b(uint32_t originator)
+{
+    const pruvelaccio_dtg dtg = {{96, 7, 3}, {16, 27, 55}};
+    pruvelaccio_row row;
+    memset(&row, 0, sizeof(row));
+    row.key.address.urn.present = true;
+    row.key.address.urn.value = originator;
+    row.key.stamp.dtg = dtg;
+    row.asked.machine = true;
+    row.recipients[0].address.urn.present = true;
+    row.recipients[0].address.urn.value = 3;
+    row.count = 1;
+    return row;
 }
 
 static void posting(void)
@@ -438,16 +493,58 @@ static void posting(void)
     refused_at_0(post_call, "no recipients", 1, MESSAGE_DATA, 21);
     now.header.front.recipients.present = true;
     done(post_call, "a message", 1, MESSAGE_DATA);
-    table_alone(post_call, "a message: the table alone", 1);
+    const pruvelaccio_row row = row_of_b(207);
+    memcpy(&before.table.rows[0], &row, sizeof(row));
+    before.table.count = 1;
+    nothing_else_changed(post_call, "a message: its row and the count alone");
     refused_at_0(post_call, "the message again", 1, MESSAGE_DATA, 22);
+}
+
+/* B from an originator with this number. */
+static void post_from(uint32_t originator)
+{
+    now.header.front.originator.address.urn.value = originator;
+    done(post_call, "one of many messages", 1, MESSAGE_DATA);
+}
+
+/* Moves rows of `before` by whole rows. */
+static void move_rows(size_t to, size_t from, size_t rows)
+{
+    memmove(&before.table.rows[to], &before.table.rows[from], rows * sizeof(pruvelaccio_row));
+}
+
+/* A new row goes between others, which keep what stands in their unused cells; unused rows stay as they are. */
+static void posting_between(void)
+{
+    set_up();
+    memset(&now.table, PATTERN, sizeof(now.table));
+    now.table.count = 0;
+    post_from(100);
+    post_from(300);
+    memset(now.table.rows[1].recipients[15].address.name.text.chars, PATTERN, PRUVELACCIO_CHARACTERS);
+    post_from(200);
+    const pruvelaccio_row row = row_of_b(200);
+    move_rows(2, 1, 1);
+    memcpy(&before.table.rows[1], &row, sizeof(row));
+    before.table.count = 3;
+    nothing_else_changed(post_call, "between two rows");
+}
+
+/* As many rows as there are places, in the order of their originators. */
+static void fill_table(void)
+{
+    set_up();
+    for (uint32_t i = 0; i < PRUVELACCIO_ROWS; i++) {
+        post_from(i);
+    }
 }
 
 static void posting_to_a_full_table(void)
 {
-    set_up();
-    for (uint32_t i = 0; i < PRUVELACCIO_ROWS; i++) {
-        now.header.front.originator.address.urn.value = i;
-        done(post_call, "one of 32 messages", 1, MESSAGE_DATA);
+    fill_table();
+    for (size_t i = 0; i < PRUVELACCIO_ROWS; i++) {
+        const pruvelaccio_row row = row_of_b((uint32_t)i);
+        expect("post", "one of 32 rows", memcmp(&now.table.rows[i], &row, sizeof(row)) == 0);
     }
     now.header.front.originator.address.urn.value = PRUVELACCIO_ROWS;
     refused_at_0(post_call, "the 33rd message", 1, MESSAGE_DATA, 23);
@@ -471,14 +568,23 @@ static void receiving(void)
     refused_at_0(receipt_call, "from another station", 1, 0, 27);
     now.header.front.originator.address.urn.value = 3;
     done(receipt_call, "the receipt", 1, 0);
-    expect("receipt", "the code", now.table.rows[0].recipients[0].machine == 1);
-    table_alone(receipt_call, "the receipt: the table alone", 1);
+    before.table.rows[0].recipients[0].machine = 1;
+    nothing_else_changed(receipt_call, "the receipt: the code alone");
     refused_at_0(receipt_call, "the receipt again", 1, 0, 28);
+}
+
+/* In `before` the row goes: those behind it come down, and the last place is 0. */
+static void take_out(size_t row)
+{
+    const size_t last = --before.table.count;
+    move_rows(row, row + 1, last - row);
+    memset(&before.table.rows[last], 0, sizeof(pruvelaccio_row));
 }
 
 static void releasing(void)
 {
     set_up_receipt();
+    refused_at_0(release_call, "a key of patterns", 0, 0, 3);
     now.key = now.table.rows[0].key;
     now.key.address.urn.value = 1 << 24;
     refused_at_0(release_call, "a URN of 25 bits", 0, 0, 3);
@@ -491,8 +597,37 @@ static void releasing(void)
     refused_at_0(release_call, "a name of 65 characters", 0, 0, 4);
     now.key = now.table.rows[0].key;
     done(release_call, "the key", 0, 0);
-    table_alone(release_call, "the key: the table alone", 0);
+    take_out(0);
+    nothing_else_changed(release_call, "the key: the table alone");
     refused_at_0(release_call, "the key again", 0, 0, 26);
+}
+
+/* The key is one of the table itself: it is gone, or another's, before the call has ended. */
+static void releasing_by_its_own_key(void)
+{
+    for (size_t row = 0; row < PRUVELACCIO_ROWS; row++) {
+        fill_table();
+        memcpy(&before, &now, sizeof(now));
+        const pruvelaccio_answer answer = pruvelaccio_release(&now.table, &now.table.rows[row].key);
+        expect("release", "a key of the table", answer.number == 0 && answer.place == 0);
+        take_out(row);
+        nothing_else_changed(release_call, "a key of the table: the table alone");
+    }
+}
+
+/* The place that is freed is 0, and unused rows behind it stay as they are. */
+static void releasing_before_unused_rows(void)
+{
+    set_up();
+    memset(&now.table, PATTERN, sizeof(now.table));
+    now.table.count = 0;
+    for (uint32_t i = 0; i < 3; i++) {
+        post_from(i);
+    }
+    now.key = now.table.rows[1].key;
+    done(release_call, "the second of three", 0, 0);
+    take_out(1);
+    nothing_else_changed(release_call, "the second of three");
 }
 
 static void listed(const char *what, uint32_t number, const char *text)
@@ -518,39 +653,66 @@ static void listing(void)
 }
 
 /*
- * Octets as they are: flags that are neither 0 nor 1, and a record at any address.
+ * Octets as they are: flags that are neither 0 nor 1, and structs at any address.
  */
 
 /*
- * Each flag of the record that is 1 gets another octet. Which octets are flags the loader shows: of octets
- * that are all 2 it makes each flag a 1.
+ * Each flag that is 1 gets another octet. Which octets are flags settling shows: of octets that are all 2 it
+ * makes each flag a 1.
  */
-static void set_flags(unsigned char octet)
+static void set_each(void *octets, const void *settled, size_t size, unsigned char octet)
 {
-    static unsigned char twos[sizeof(pruvelaccio_header)];
-    static pruvelaccio_header loaded_twos;
-    unsigned char *record = (unsigned char *)&now.header;
-    memset(twos, 2, sizeof(twos));
-    pruvelaccio_load_header(&loaded_twos, twos, sizeof(twos));
-    const unsigned char *flags = (const unsigned char *)&loaded_twos;
-    for (size_t i = 0; i < sizeof(now.header); i++) {
-        if (flags[i] == 1 && record[i] == 1) {
-            record[i] = octet;
+    unsigned char *at = octets;
+    const unsigned char *flags = settled;
+    for (size_t i = 0; i < size; i++) {
+        if (flags[i] == 1 && at[i] == 1) {
+            at[i] = octet;
         }
     }
 }
 
-/* A posting and its receipt with such flags leave the row that they leave with flags of 1. */
+static void set_flags(unsigned char octet)
+{
+    static pruvelaccio_header flags;
+    memset(&flags, 2, sizeof(flags));
+    pruvelaccio_settle_record(&flags);
+    set_each(&now.header, &flags, sizeof(flags), octet);
+}
+
+static void set_table_flags(unsigned char octet)
+{
+    static pruvelaccio_table flags;
+    memset(&flags, 2, sizeof(flags));
+    pruvelaccio_settle_table(&flags);
+    set_each(&now.table, &flags, sizeof(flags), octet);
+}
+
+static void set_key_flags(unsigned char octet)
+{
+    static pruvelaccio_key flags;
+    memset(&flags, 2, sizeof(flags));
+    pruvelaccio_settle_key(&flags);
+    set_each(&now.key, &flags, sizeof(flags), octet);
+}
+
+/* A posting, its receipt and a release with such flags do what they do with flags of 1. */
 static void entered(unsigned char octet)
 {
     set_up();
     set_flags(octet);
     done(post_call, "flags that are not 1", 1, MESSAGE_DATA);
+    now.key = now.table.rows[0].key;
+    set_table_flags(octet);
+    refused_at_0(post_call, "again, the table's flags not 1", 1, MESSAGE_DATA, 22);
     pruvelaccio_read(receipt, sizeof(receipt), &now.header, NULL);
     set_flags(octet);
     done(receipt_call, "flags that are not 1", 1, 0);
     listed("rows by flags that are not 1", 0, "rows 1\n");
     listed("a row by flags that are not 1", 1, "207 96-07-03 16:27:55 - asked m\n  3 m=1\n");
+    set_key_flags(octet);
+    done(release_call, "flags that are not 1", 0, 0);
+    take_out(0);
+    nothing_else_changed(release_call, "flags that are not 1");
 }
 
 static void flags_other_than_1(void)
@@ -580,6 +742,33 @@ static void at_an_odd_address(void)
     expect("write_octets", "an odd address", put.number == 0 && memcmp(now.out, message, put.length) == 0);
 }
 
+/* A table and a key at odd addresses, with the library's own functions. */
+static void tables_at_an_odd_address(void)
+{
+    static uint8_t places[sizeof(pruvelaccio_table) + 1];
+    static uint8_t keys[sizeof(pruvelaccio_key) + 1];
+    uint8_t *table = (uintptr_t)places % 2 == 0 ? places + 1 : places;
+    uint8_t *key = (uintptr_t)keys % 2 == 0 ? keys + 1 : keys;
+    set_up();
+    memset(places, PATTERN, sizeof(places));
+    pruvelaccio_empty_octets(table);
+    expect("empty_octets", "an odd address", memcmp(table, &now.table, sizeof(now.table)) == 0);
+    expect("post_octets", "an odd address",
+           pruvelaccio_post_octets(table, &now.header, 1, MESSAGE_DATA).number == 0);
+    set_up_receipt();
+    expect("post_octets", "the same table", memcmp(table, &now.table, sizeof(now.table)) == 0);
+    make_receipt(1, 0);
+    expect("receipt_octets", "an odd address",
+           pruvelaccio_receipt_octets(table, &now.header, 1, 0).number == 0);
+    expect("receipt_octets", "the same table", memcmp(table, &now.table, sizeof(now.table)) == 0);
+    const pruvelaccio_size_answer got = pruvelaccio_list_row_octets(table, 0, now.out, room);
+    expect("list_row_octets", "an odd address", got.number == 0 && memcmp(now.out, "rows 1\n", 7) == 0);
+    memcpy(key, &now.table.rows[0].key, sizeof(now.key));
+    expect("release_octets", "an odd address", pruvelaccio_release_octets(table, key).number == 0);
+    pruvelaccio_empty(&now.table);
+    expect("release_octets", "the same table", memcmp(table, &now.table, sizeof(now.table)) == 0);
+}
+
 /* NULL with length 0, and sizes that are not wanted. */
 static void without_octets(void)
 {
@@ -600,140 +789,197 @@ static void without_octets(void)
 }
 
 /*
- * Loaders.
+ * Flags settled.
  */
 
-static uint8_t octets[sizeof(pruvelaccio_table) + 1];
-
-typedef struct loader {
-    const char *name;
-    bool (*load)(size_t size);
-    size_t size;
-    void *to;
-    size_t flags;
-} loader;
-
-static bool load_header(size_t size)
+/* Of so many octets that are all a pattern, as many become 1 as there are flags, and no other changes. */
+static void settled(const char *name, const void *octets, size_t size, size_t flags)
 {
-    return pruvelaccio_load_header(&now.header, octets, size);
+    const unsigned char *at = octets;
+    size_t ones = 0;
+    size_t patterns = 0;
+    for (size_t i = 0; i < size; i++) {
+        ones += at[i] == 1 ? 1 : 0;
+        patterns += at[i] == PATTERN ? 1 : 0;
+    }
+    expect(name, "every flag 1, and nothing else changed", ones == flags && patterns == size - flags);
 }
 
-static bool load_table(size_t size)
-{
-    return pruvelaccio_load_table(&now.table, octets, size);
-}
-
-static bool load_key(size_t size)
-{
-    return pruvelaccio_load_key(&now.key, octets, size);
-}
-
-/* How many flags are tested: none of a record, 38 in each row of a table. */
-static const loader loaders[] = {
-    {"load_header", load_header, sizeof(pruvelaccio_header), &now.header, 0},
-    {"load_table", load_table, sizeof(pruvelaccio_table), &now.table, 32 * 38},
-    {"load_key", load_key, sizeof(pruvelaccio_key), &now.key, 3},
-};
-
-/* The struct's octets are those given, and no other changes. */
-static void loaded(const loader *one, const char *what)
+/* 7 flags of a record's own, 2 in each of 32 addressees, 31 in each block; 38 in each row; 3 in a key. */
+static void flags_settled(void)
 {
     memset(&now, PATTERN, sizeof(now));
     memcpy(&before, &now, sizeof(now));
-    expect(one->name, what, one->load(one->size));
-    expect(one->name, what, memcmp(one->to, octets, one->size) == 0);
-    memset(one->to, PATTERN, one->size);
-    expect(one->name, what, memcmp(&now, &before, sizeof(now)) == 0);
+    pruvelaccio_settle_record(&now.header);
+    pruvelaccio_settle_table(&now.table);
+    pruvelaccio_settle_key(&now.key);
+    settled("settle_record", &now.header, sizeof(now.header), 7 + 32 * 2 + 16 * 31);
+    settled("settle_table", &now.table, sizeof(now.table), 32 * 38);
+    settled("settle_key", &now.key, sizeof(now.key), 3);
+    memcpy(&before.header, &now.header, sizeof(now.header));
+    memcpy(&before.table, &now.table, sizeof(now.table));
+    memcpy(&before.key, &now.key, sizeof(now.key));
+    expect("settle", "no octet beside them", memcmp(&now, &before, sizeof(now)) == 0);
 }
 
-static void not_loaded(const loader *one, const char *what, size_t size)
+static void flag_is_one(const char *what, const bool *flag)
+{
+    const unsigned char *octet = (const unsigned char *)flag;
+    expect("settle", what, *octet == 1);
+}
+
+/* The last flag of each kind of list, by its name. */
+static void last_flags_settled(void)
+{
+    const pruvelaccio_block *block = &now.header.blocks.list[PRUVELACCIO_BLOCKS - 1];
+    const pruvelaccio_row *row = &now.table.rows[PRUVELACCIO_ROWS - 1];
+    flag_is_one("the last recipient's", &now.header.front.recipients.addresses.list[15].name.present);
+    flag_is_one("the last addressee's", &now.header.front.information.addresses.list[15].name.present);
+    flag_is_one("the last amplification's", &block->response.response.amplification.present);
+    flag_is_one("the last reference's", &block->references.references.list[3].stamp.extension.present);
+    flag_is_one("the last block's reply", &block->times.requests.requests.reply);
+    flag_is_one("the last row's reply", &row->asked.reply);
+    flag_is_one("the last row's extension's", &row->key.stamp.extension.present);
+    flag_is_one("the last row's last recipient's", &row->recipients[15].address.name.present);
+}
+
+/* A 0 stays 0. */
+static void zeros_settled(void)
+{
+    memset(&now, 0, sizeof(now));
+    memset(&before, 0, sizeof(before));
+    pruvelaccio_settle_record(&now.header);
+    pruvelaccio_settle_table(&now.table);
+    pruvelaccio_settle_key(&now.key);
+    expect("settle", "every octet 0", memcmp(&now, &before, sizeof(now)) == 0);
+}
+
+/*
+ * Saving and loading.
+ */
+
+/* Octets to save to and to load from, with a guard behind them. */
+static uint8_t saved[PRUVELACCIO_SAVED_TABLE_OCTETS + GUARD];
+
+typedef struct keeper {
+    const char *name;
+    pruvelaccio_saved (*save)(size_t into, size_t *written);
+    pruvelaccio_saved (*load)(size_t size);
+    size_t size;
+    void *object;
+} keeper;
+
+static pruvelaccio_saved save_record(size_t into, size_t *written)
+{
+    return pruvelaccio_save_record(&now.header, saved, into, written);
+}
+
+static pruvelaccio_saved load_record(size_t size)
+{
+    return pruvelaccio_load_record(&now.header, saved, size);
+}
+
+static pruvelaccio_saved save_table(size_t into, size_t *written)
+{
+    return pruvelaccio_save_table(&now.table, saved, into, written);
+}
+
+static pruvelaccio_saved load_table(size_t size)
+{
+    return pruvelaccio_load_table(&now.table, saved, size);
+}
+
+static const keeper keepers[] = {
+    {"record", save_record, load_record, PRUVELACCIO_SAVED_RECORD_OCTETS, &now.header},
+    {"table", save_table, load_table, PRUVELACCIO_SAVED_TABLE_OCTETS, &now.table},
+};
+
+/* How many octets from a place on still hold the pattern. */
+static size_t patterned(const uint8_t *octets, size_t size)
+{
+    size_t count = 0;
+    while (count < size && octets[count] == PATTERN) {
+        count++;
+    }
+    return count;
+}
+
+/* The number 1 with its low octet first, the struct, and nothing behind it. */
+static void saving(const keeper *one)
+{
+    static const uint8_t number[] = {1, 0, 0, 0};
+    size_t written = 77;
+    set_up_receipt();
+    memset(saved, PATTERN, sizeof(saved));
+    expect(one->name, "an octet of room too few", one->save(one->size - 1, &written) == PRUVELACCIO_SAVED_NO_ROOM);
+    expect(one->name, "no room", one->save(0, &written) == PRUVELACCIO_SAVED_NO_ROOM && written == 77);
+    expect(one->name, "nothing saved", patterned(saved, sizeof(saved)) == sizeof(saved));
+    expect(one->name, "saved", one->save(one->size, &written) == PRUVELACCIO_SAVED_DONE);
+    expect(one->name, "its size", written == one->size);
+    expect(one->name, "its number", memcmp(saved, number, sizeof(number)) == 0);
+    expect(one->name, "its octets", memcmp(saved + 4, one->object, one->size - 4) == 0);
+    expect(one->name, "no more",
+           patterned(saved + one->size, sizeof(saved) - one->size) == sizeof(saved) - one->size);
+    expect(one->name, "a size not wanted", one->save(sizeof(saved), NULL) == PRUVELACCIO_SAVED_DONE);
+}
+
+/* What is saved is loaded again, and no other octet changes. */
+static void loading(const keeper *one)
+{
+    memcpy(&before, &now, sizeof(now));
+    memset(one->object, PATTERN, one->size - 4);
+    expect(one->name, "loaded", one->load(one->size) == PRUVELACCIO_SAVED_DONE);
+    expect(one->name, "the struct alone", memcmp(&now, &before, sizeof(now)) == 0);
+}
+
+static void not_loaded(const keeper *one, const char *what, size_t size, pruvelaccio_saved expected)
 {
     refusing = what;
     protect(PROT_READ);
-    const bool done_so = one->load(size);
+    const pruvelaccio_saved answer = one->load(size);
     protect(PROT_READ | PROT_WRITE);
-    expect(one->name, what, !done_so);
+    expect(one->name, what, answer == expected);
 }
 
-/* A 2 at each octet in turn: as many are refused as there are flags. */
-static void flags_tested(const loader *one)
+/* Octets of another layout and of another size; the first four octets are the number. */
+static void loading_refused(const keeper *one)
 {
-    size_t refusals = 0;
-    memset(octets, 0, sizeof(octets));
-    for (size_t i = 0; i < one->size; i++) {
-        octets[i] = 2;
-        refusals += one->load(one->size) ? 0 : 1;
-        octets[i] = 0;
-    }
-    expect(one->name, "one refusal for each flag", refusals == one->flags);
-}
-
-static void loading(const loader *one)
-{
-    memset(octets, ONES, sizeof(octets));
-    loaded(one, "every octet 1");
-    not_loaded(one, "an octet too few", one->size - 1);
-    not_loaded(one, "an octet too many", one->size + 1);
-    not_loaded(one, "no octet", 0);
-    memset(octets, 0, sizeof(octets));
-    loaded(one, "every octet 0");
-    flags_tested(one);
-    if (one->flags > 0) {
-        memset(octets, PATTERN, sizeof(octets));
-        not_loaded(one, "every octet a pattern", one->size);
+    not_loaded(one, "no octets", 0, PRUVELACCIO_SAVED_OTHER_SIZE);
+    not_loaded(one, "three octets", 3, PRUVELACCIO_SAVED_OTHER_SIZE);
+    not_loaded(one, "the number alone", 4, PRUVELACCIO_SAVED_OTHER_SIZE);
+    not_loaded(one, "an octet too few", one->size - 1, PRUVELACCIO_SAVED_OTHER_SIZE);
+    not_loaded(one, "an octet too many", one->size + 1, PRUVELACCIO_SAVED_OTHER_SIZE);
+    for (size_t i = 0; i < 4; i++) {
+        saved[i] ^= 2;
+        not_loaded(one, "another number", one->size, PRUVELACCIO_SAVED_OTHER_LAYOUT);
+        not_loaded(one, "another number and size", one->size - 1, PRUVELACCIO_SAVED_OTHER_LAYOUT);
+        saved[i] ^= 2;
     }
 }
 
-/* The last flag of a table, by its name. */
-static void last_flag_refused(void)
+/* Any octets behind the number are some struct; its flags are settled. */
+static void loading_any(const keeper *one)
 {
-    const size_t row = offsetof(pruvelaccio_table, rows[PRUVELACCIO_ROWS - 1]);
-    memset(octets, 0, sizeof(octets));
-    octets[row + offsetof(pruvelaccio_row, recipients[15].address.name.present)] = 2;
-    not_loaded(&loaders[1], "the last row's last recipient's", sizeof(pruvelaccio_table));
+    memset(&now, 0, sizeof(now));
+    memset(saved + 4, PATTERN, sizeof(saved) - 4);
+    expect(one->name, "any octets", one->load(one->size) == PRUVELACCIO_SAVED_DONE);
+    settled(one->name, one->object, one->size - 4, one->object == &now.table ? 32 * 38 : 7 + 32 * 2 + 16 * 31);
 }
 
-/* A flag of a record becomes 1, whatever octet but 0 is there. */
-static void flag_settled(const char *what, size_t offset)
+static void keeping(void)
 {
-    const unsigned char *record = (const unsigned char *)&now.header;
-    memset(octets, 0, sizeof(octets));
-    octets[offset] = PATTERN;
-    expect("load_header", what, load_header(sizeof(pruvelaccio_header)) && record[offset] == 1);
-}
-
-/* The last flag of each kind of list of a record, by its name. */
-static void last_flags_settled(void)
-{
-    const size_t block = offsetof(pruvelaccio_header, blocks.list[PRUVELACCIO_BLOCKS - 1]);
-    flag_settled("the last recipient's",
-                 offsetof(pruvelaccio_header, front.recipients.addresses.list[15].name.present));
-    flag_settled("the last information addressee's",
-                 offsetof(pruvelaccio_header, front.information.addresses.list[15].name.present));
-    flag_settled("the last block's amplification's",
-                 block + offsetof(pruvelaccio_block, response.response.amplification.present));
-    flag_settled("the last block's last reference's",
-                 block + offsetof(pruvelaccio_block, references.references.list[3].stamp.extension.present));
-}
-
-/* Of a record's octets the flags alone change: 7 of its own, 2 in each of 32 addressees, 31 in each block. */
-static void flags_settled(void)
-{
-    const unsigned char *record = (const unsigned char *)&now.header;
-    size_t settled = 0;
-    size_t changed = 0;
-    memset(&now, PATTERN, sizeof(now));
-    memcpy(&before, &now, sizeof(now));
-    memset(octets, PATTERN, sizeof(octets));
-    expect("load_header", "every octet a pattern", load_header(sizeof(pruvelaccio_header)));
-    for (size_t i = 0; i < sizeof(pruvelaccio_header); i++) {
-        settled += record[i] == 1 ? 1 : 0;
-        changed += record[i] != PATTERN ? 1 : 0;
+    for (size_t i = 0; i < LENGTH(keepers); i++) {
+        saving(&keepers[i]);
+        loading(&keepers[i]);
+        loading_refused(&keepers[i]);
+        loading_any(&keepers[i]);
     }
-    expect("load_header", "every flag 1", settled == 7 + 32 * 2 + 16 * 31 && changed == settled);
-    memset(&now.header, PATTERN, sizeof(now.header));
-    expect("load_header", "the record alone", memcmp(&now, &before, sizeof(now)) == 0);
-    last_flags_settled();
+    set_up();
+    save_record(sizeof(saved), NULL);
+    not_loaded(&keepers[1], "a record for a table", PRUVELACCIO_SAVED_RECORD_OCTETS, PRUVELACCIO_SAVED_OTHER_SIZE);
+    expect("saved_meaning", "of another layout",
+           strcmp(pruvelaccio_saved_meaning(PRUVELACCIO_SAVED_OTHER_LAYOUT),
+                  "the octets were saved with another layout") == 0);
 }
 
 static void calls_with_records(void)
@@ -751,10 +997,14 @@ static void calls_with_tables(void)
     tables_refused(receipt_call);
     tables_refused(release_call);
     tables_refused(list_row_call);
+    emptying();
     posting();
+    posting_between();
     posting_to_a_full_table();
     receiving();
     releasing();
+    releasing_by_its_own_key();
+    releasing_before_unused_rows();
     listing();
 }
 
@@ -769,12 +1019,13 @@ int main(void)
     calls_with_tables();
     flags_other_than_1();
     at_an_odd_address();
+    tables_at_an_odd_address();
     without_octets();
-    for (size_t i = 0; i < LENGTH(loaders); i++) {
-        loading(&loaders[i]);
-    }
-    last_flag_refused();
     flags_settled();
+    last_flags_settled();
+    zeros_settled();
+    keeping();
+    expect("layout", "its number", pruvelaccio_layout_mark() == PRUVELACCIO_LAYOUT);
     printf("wrappers: %u expectations, %u failed\n", cases, failures);
     return failures == 0 ? EXIT_SUCCESS : EXIT_FAILURE;
 }

@@ -1,16 +1,12 @@
--- The answer of a call on the table, as numbers.
-use mathlib.Core.Path.{_≡_, _∙_}
-use Rattle.table.specs.declared.Table.{Table}
+-- A call's answer in numbers is the answer that the call promised. Assumes nothing.
+use Prim.Native.Nat.{ℕ}
+use mathlib.Core.Path.{_≡_, sym, subst, _∙_}
+use mathlib.Core.List.{List}
 use Rattle.order.specs.Calls.{Call}
-use Rattle.transitions.specs.Acts.{Acted}
 use Rattle.arguments.specs.Told.{answerNo, answerPlace}
-use Rattle.transitions.specs.declared.TableAfter.{TableAfter}
+use Rattle.arguments.specs.declared.Answer.{Answer}
+use Rattle.transitions.specs.Transition.{Transition}
 use Rattle.answers.specs.declared.TableAnswer.{TableAnswer}
 
--- what holds of a call's own answer holds of its numbers
-pub numbered :
-    {c : Call} {t : Table} (x : TableAfter) (r : TableAnswer)
-    → (r .number ≡ answerNo (x .answer)) × (r .place ≡ answerPlace (x .answer)) × (r .table ≡ x .table)
-    → Acted c t (answerNo (x .answer)) (x .table) × (answerPlace (x .answer) ≡ 0)
-    → Acted c t (r .number) (r .table) × (r .place ≡ 0)
-numbered x r (n, p, s) (d, z) = (rw (n, s) d, p ∙ z)
+pub numbered : {c : Call} {t t′ : List ℕ} (a : Answer) (r : TableAnswer) → (r .number ≡ answerNo a) × (r .place ≡ answerPlace a) → Transition c t (answerNo a) t′ × (answerPlace a ≡ 0) → Transition c t (r .number) t′ × (r .place ≡ 0)
+numbered {c = c} {t = t} {t′ = t′} a r e p = (subst (λ (n : ℕ). Transition c t n t′) (sym (e .0)) (p .0), e .1 ∙ p .1)

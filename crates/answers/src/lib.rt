@@ -15,8 +15,6 @@ use listing::Listed;
 use listing::ListingFault;
 use reader::HeaderRead;
 use reader::Outcome;
-use table::Table;
-use transitions::TableAfter;
 use writer::Written;
 
 // Reading, the check, writing and the listing: number 0 and a size in octets; or a refusal's number and place,
@@ -28,13 +26,11 @@ pub struct SizeAnswer {
     pub length: usize,
 }
 
-// Posting, receipt and release: number 0 or the refusal's, the place, which is always 0, and the table
-// afterwards; refused, the table as it came.
+// Posting, receipt and release: number 0 or the refusal's, and the place, which is always 0.
 #[repr(C)]
 pub struct TableAnswer {
     pub number: u32,
     pub place: usize,
-    pub table: Table,
 }
 
 // Document 01's number of a refusal of a header.
@@ -175,15 +171,12 @@ fn answer_place(a: Answer) -> BitPlace
     }
 }
 
-pub fn of_call(a: TableAfter) -> TableAnswer
-    ensures { λ r. ⌜ (r .number ≡ answerNo (a .answer)) × (r .place ≡ answerPlace (a .answer)) × (r .table ≡ a .table) ⌝ }
+pub fn of_call(a: Answer) -> TableAnswer
+    ensures { λ r. ⌜ (r .number ≡ answerNo a) × (r .place ≡ answerPlace a) ⌝ }
 {
-    let answer = a.answer;
-    let table = a.table;
-    let place = answer_place(answer);
+    let place = answer_place(a);
     TableAnswer {
-        number: answer_number(answer),
+        number: answer_number(a),
         place: place.0,
-        table: table,
     }
 }

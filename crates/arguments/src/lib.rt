@@ -5,7 +5,7 @@ ghost use Prim.Native.Nat.{_+_, _<_, _≤_};
 ghost use lib.ListN.{length};
 ghost use Rattle.codec.specs.Refusals.{checkNo};
 ghost use Rattle.record_octets.specs.Record.{sizeOfBlock, blockIn, sizeOfHeader, headerIn};
-ghost use Rattle.arguments.specs.Arguments.{hasBlock, blockAt, asks, someRecipient, oneRecipient, postingKey, receiptKey, postingFault, receiptFault};
+ghost use Rattle.arguments.specs.Arguments.{hasBlock, blockAt, asks, someRecipient, oneRecipient, postingFault, receiptFault};
 ghost use Rattle.arguments.specs.Told.{pendingNo, answerNo, answerPlace, writtenNo};
 use bits::BitPlace;
 use bits::OctetSize;
@@ -21,11 +21,6 @@ use leaves::block::has_requests;
 use leaves::block::has_response;
 use leaves::setting::block_count;
 use leaves::setting::has_originator;
-use loads::record::load_answered;
-use loads::record::load_first_recipient;
-use loads::record::load_origin;
-use loads::record::load_originator;
-use order::Key;
 use record_octets::RECORD;
 use record_octets::in_addresses;
 use record_octets::in_blocks;
@@ -33,6 +28,8 @@ use record_octets::in_front;
 use record_octets::in_header;
 use record_octets::in_optional_addresses;
 use writer::Written;
+
+pub mod parts;
 
 // Why a call is refused. The record's own faults, and a key's, are the writer's.
 pub enum PendingFault {
@@ -179,32 +176,6 @@ pub fn one_recipient(h: &[u8]) -> bool
     }
     let count = recipient_count(h);
     count == 1
-}
-
-// A posting's key: its originator with its block's G5.
-pub fn posting_key(h: &[u8], b: &[u8]) -> Key
-    requires { ⌜ (length (now h) ≡ sizeOfHeader) × (length (now b) ≡ sizeOfBlock) ⌝ }
-    ensures { λ r. ⌜ r ≡ postingKey (headerIn (now (h .entry))) (blockIn (now (b .entry))) ⌝ }
-{
-    let address = load_originator(h);
-    let stamp = load_origin(b);
-    Key {
-        address: address,
-        stamp: stamp,
-    }
-}
-
-// A receipt's key: its one recipient with its block's G8.
-pub fn receipt_key(h: &[u8], b: &[u8]) -> Key
-    requires { ⌜ (length (now h) ≡ sizeOfHeader) × (length (now b) ≡ sizeOfBlock) ⌝ }
-    ensures { λ r. ⌜ r ≡ receiptKey (headerIn (now (h .entry))) (blockIn (now (b .entry))) ⌝ }
-{
-    let address = load_first_recipient(h);
-    let stamp = load_answered(b);
-    Key {
-        address: address,
-        stamp: stamp,
-    }
 }
 
 // A posting's arguments, its block at hand: the record's own refusals, then 29, 20 and 21.

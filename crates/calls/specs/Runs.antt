@@ -34,8 +34,8 @@ module _ {C S A : Type 0} (step : C → S → A × S) where
     pub sameAnswers : answers s (pre ++ b ∷ (a ∷ rest)) ≡ exchange (length pre) (answers s (pre ++ a ∷ (b ∷ rest)))
     pub sameEnd : final s (pre ++ b ∷ (a ∷ rest)) ≡ final s (pre ++ a ∷ (b ∷ rest))
 
--- A run of the code. `Did c b x b′`: what the contract of the call c promises of its answer x and of the table b′ that it leaves, given b. A run has
+-- A run of the code. `Transition c t x t′`: what the contract of the call c promises of its answer x and of the table t′ that it leaves, given t. A run has
 -- the calls, their answers, the tables before the first and behind each, and the last table.
-pub data Ran {C A B : Type 0} (Did : C → B → A → B → Type 0) : B → List C → List A → List B → B → Type 0 where
-  stop : {b : B} → Ran Did b [] [] (b ∷ []) b
-  call : {b b′ e : B} {c : C} {x : A} {cs : List C} {xs : List A} {bs : List B} → Did c b x b′ → Ran Did b′ cs xs bs e → Ran Did b (c ∷ cs) (x ∷ xs) (b ∷ bs) e
+pub data Ran {C A B : Type 0} (Transition : C → B → A → B → Type 0) : B → List C → List A → List B → B → Type 0 where
+  stop : {t : B} → Ran Transition t [] [] (t ∷ []) t
+  call : {t t′ e : B} {c : C} {x : A} {cs : List C} {xs : List A} {ts : List B} → Transition c t x t′ → Ran Transition t′ cs xs ts e → Ran Transition t (c ∷ cs) (x ∷ xs) (t ∷ ts) e

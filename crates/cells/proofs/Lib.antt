@@ -4,5 +4,6 @@ pub mod Stores
 pub mod Lists
 pub mod Sets
 pub mod Moved
+pub mod Inserted
 mod Shift
-mod Copying
+pub mod Copying

@@ -4,7 +4,7 @@ use mathlib.Core.Path.{_≡_, refl, sym, ap, _∙_}
 use mathlib.Core.List.{List, [], _∷_, _++_, append-assoc}
 use native.Mathlib.Omega.{arith}
 use lib.ListN.{length, take, drop, getD, length-drop, length-append}
-use lib.Seq.{take-take, drop-drop, length-take-le, getD-take, getD-drop, take-nil, drop-nil, paste, take-all, take-at, drop-at, length-paste, take-append-le, drop-append-le}
+use lib.Seq.{take-take, drop-drop, length-take-le, getD-take, getD-drop, take-nil, drop-nil, paste, take-all, take-at, drop-at, length-paste, take-append-le, take-append-add, drop-append-le}
 use Rattle.cells.specs.Cells.{part, replaced}
 
 pub part-length : (at n : ℕ) (s : List ℕ) → at + n ≤ length s → length (part at n s) ≡ n
@@ -61,3 +61,24 @@ replaced-behind at n a m s ys f h g =
     ap (take m) (ap (λ (x : ℕ). drop x (replaced at n s ys)) e
     ∙ sym (drop-drop (a - (at + n)) (at + n) (replaced at n s ys)) ∙ ap (drop (a - (at + n))) d ∙ drop-drop (a - (at + n)) (at + n) s
     ∙ ap (λ (x : ℕ). drop x s) (sym e))
+
+-- a part in which something is replaced
+pub part-of-replaced : (b n at m : ℕ) (s ys : List ℕ) → at + m ≤ n → b + n ≤ length s → length ys ≡ m → part b n (replaced (b + at) m s ys) ≡ replaced at m (part b n s) ys
+part-of-replaced b n at m s ys h f g =
+    let d : List ℕ = drop b s in
+    let q : List ℕ = drop m (drop at d) in
+    let l : length (take (b + at) s) ≡ b + at = length-take-le (b + at) s (omega arith) in
+    let ld : length d ≡ length s - b = length-drop b s in
+    let lp : length (take at d) ≡ at = length-take-le at d (omega arith) in
+    let e : b + at - b ≡ at = omega arith in
+    let a : drop b (replaced (b + at) m s ys) ≡ take at d ++ (ys ++ q) =
+    drop-append-le b (take (b + at) s) (ys ++ drop m (drop (b + at) s)) (omega arith)
+    ∙ ap (λ (x : List ℕ). x ++ (ys ++ drop m (drop (b + at) s))) (drop-of-take b (b + at) s (omega arith) ∙ ap (λ (i : ℕ). take i d) e)
+    ∙ ap (λ (x : List ℕ). take at d ++ (ys ++ drop m x)) (sym (drop-drop at b s)) in
+    let n1 : n ≡ length (take at d) + (m + (n - at - m)) = omega arith in
+    let n2 : m + (n - at - m) ≡ length ys + (n - at - m) = omega arith in
+    let t : take n (take at d ++ (ys ++ q)) ≡ take at d ++ (ys ++ take (n - at - m) q) =
+    ap (λ (i : ℕ). take i (take at d ++ (ys ++ q))) n1 ∙ take-append-add (take at d) (ys ++ q) (m + (n - at - m))
+    ∙ ap (λ (x : List ℕ). take at d ++ x) (ap (λ (i : ℕ). take i (ys ++ q)) n2 ∙ take-append-add ys q (n - at - m)) in
+    let u : drop m (drop at (take n d)) ≡ take (n - at - m) q = ap (drop m) (drop-of-take at n d (omega arith)) ∙ drop-of-take m (n - at) (drop at d) (omega arith) in
+    ap (take n) a ∙ t ∙ sym (rw (take-take at n d (omega arith), u) refl)

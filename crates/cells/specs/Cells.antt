@@ -1,5 +1,5 @@
 -- What lent octets hold, and the octets of a thing: a part of them, numbers of four octets, flags, and things of equally many octets one behind the other.
-use Prim.Native.Nat.{ℕ, zero, suc, _+_, _*_, _/_, _%_}
+use Prim.Native.Nat.{ℕ, zero, suc, _+_, _-_, _*_, _/_, _%_}
 use mathlib.Core.Bool.{Bool, true, false, not}
 use mathlib.Core.List.{List, [], _∷_, _++_}
 use lib.Dec.{eqb}
@@ -16,6 +16,15 @@ replaced at n s ys = take at s ++ (ys ++ drop n (drop at s))
 -- n octets that are all 0
 abbrev pub zeros : ℕ → List ℕ
 zeros n = replicate n 0
+
+-- the first n things of w octets each, with another one put in behind so many of them: those behind it lie one thing further on, and what
+-- lies behind the n + 1 stays
+unfoldable pub insertedAt : ℕ → ℕ → ℕ → List ℕ → List ℕ → List ℕ
+insertedAt w n at x s = take (at * w) s ++ (x ++ (part (at * w) ((n - at) * w) s ++ drop ((n + 1) * w) s))
+
+-- with the one behind so many of them taken out: those behind it lie one thing further up, the place of the last of the n is 0, and what lies behind stays
+unfoldable pub removedAt : ℕ → ℕ → ℕ → List ℕ → List ℕ
+removedAt w n at s = take (at * w) s ++ (part ((at + 1) * w) ((n - (at + 1)) * w) s ++ (zeros w ++ drop (n * w) s))
 
 -- a number of four octets, the low one first
 unfoldable pub wordIn : List ℕ → ℕ

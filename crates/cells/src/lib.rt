@@ -4,7 +4,7 @@ ghost use mathlib.Core.Path.{_≡_};
 ghost use Prim.Native.Nat.{_+_, _-_, _*_, _<_, _≤_};
 ghost use lib.ListN.{length, drop};
 ghost use lib.Seq.{paste};
-ghost use Rattle.cells.specs.Cells.{part, wordIn, wordOctets, flagIn, flagOctets, markOctets};
+ghost use Rattle.cells.specs.Cells.{part, zeros, wordIn, wordOctets, flagIn, flagOctets, markOctets};
 
 fn wide(x: u8) -> u32
     ensures { λ r. ⌜ (r ≡ x) × (r < 256) ⌝ }
@@ -66,6 +66,18 @@ pub fn store_chars(b: &mut [u8], chars: [u8; 64])
     ensures { λ r. ⌜ now (b .exit) ≡ chars ⌝ }
 {
     copy(b, 0, &chars, 0, 64);
+}
+
+// All of them 0.
+pub fn clear(b: &mut [u8])
+    ensures { λ r. ⌜ now (b .exit) ≡ zeros (length (now (b .entry))) ⌝ }
+{
+    let n = b.len();
+    let mut i: usize = 0;
+    while i < n {
+        b[i] = 0;
+        i += 1;
+    }
 }
 
 // So many octets from a place on.

@@ -1,5 +1,5 @@
-// The calls for hosts in C and Rust: each is one call of the gateway, its records and octets lent, its table by
-// value, its answer in plain numbers.
+// The calls for hosts in C and Rust: each is one call of the gateway, its record, table, key and octets lent,
+// its answer in plain numbers.
 ghost use mathlib.Core.Path.{_≡_};
 ghost use mathlib.Core.List.{[]};
 ghost use Prim.Native.Nat.{_-_};
@@ -9,17 +9,18 @@ ghost use Rattle.reader.specs.Told.{toTell, recordAfter, Holds};
 ghost use Rattle.record_octets.specs.Record.{headerIn};
 ghost use Rattle.writer.specs.Writing as writer;
 ghost use Rattle.table.specs.Rows.{see};
-ghost use Rattle.table.specs.Zero.{noTable};
-ghost use Rattle.arguments.specs.Arguments.{posting, receiving, releasing};
-ghost use Rattle.pending.specs.Calls.{Did};
+ghost use Rattle.cells.specs.Cells.{zeros};
+ghost use Rattle.table_octets.specs.Table.{keyIn, sizeOfTable, tableIn};
+ghost use Rattle.arguments.specs.Arguments.{posting, receiving, releasing, callOf};
+ghost use Rattle.transitions.specs.Transition.{Transition};
 ghost use Rattle.listing.specs.Listing as listing;
 ghost use Rattle.answers.specs.Numbers.{readNumbers, writeNumbers, listNumbers};
 use answers::SizeAnswer;
 use answers::TableAnswer;
 use bits::OctetSize;
-use order::Key;
 use record_octets::RECORD;
-use table::Table;
+use table_octets::KEY;
+use table_octets::TABLE;
 
 #[no_mangle]
 pub extern "C" fn pruvelaccio_read_octets(datagram: &[u8], header: &mut [u8; RECORD]) -> SizeAnswer
@@ -59,47 +60,60 @@ pub extern "C" fn pruvelaccio_write_octets(
 }
 
 #[no_mangle]
-pub extern "C" fn pruvelaccio_empty_value() -> Table
-    ensures { λ r. ⌜ (r ≡ noTable) × (see r ≡ []) × (r .count ≡ 0) ⌝ }
+pub extern "C" fn pruvelaccio_empty_octets(t: &mut [u8; TABLE])
+    ensures { λ r. ⌜ (now (t .exit) ≡ zeros sizeOfTable) × (see (tableIn (now (t .exit))) ≡ []) × (tableIn (now (t .exit)) .count ≡ 0) ⌝ }
 {
-    table::zero::empty()
+    pending::empty(t);
 }
 
 #[no_mangle]
-pub extern "C" fn pruvelaccio_post_value(
-    t: Table,
+pub extern "C" fn pruvelaccio_post_octets(
+    t: &mut [u8; TABLE],
     header: &[u8; RECORD],
     number: u32,
     count: usize,
 ) -> TableAnswer
-    ensures { λ r. ⌜ Did (posting (headerIn (now (header .entry))) number count) t (r .number) (r .table) × (r .place ≡ 0) ⌝ }
+    ensures { λ r. ⌜ Transition (callOf (posting (headerIn (now (header .entry))) number count)) (now (t .entry)) (r .number) (now (t .exit)) × (r .place ≡ 0) ⌝ }
 {
     answers::of_call(pending::post(t, header, number, OctetSize(count)))
 }
 
 #[no_mangle]
-pub extern "C" fn pruvelaccio_receipt_value(
-    t: Table,
+pub extern "C" fn pruvelaccio_receipt_octets(
+    t: &mut [u8; TABLE],
     header: &[u8; RECORD],
     number: u32,
     count: usize,
 ) -> TableAnswer
-    ensures { λ r. ⌜ Did (receiving (headerIn (now (header .entry))) number count) t (r .number) (r .table) × (r .place ≡ 0) ⌝ }
+    ensures { λ r. ⌜ Transition (callOf (receiving (headerIn (now (header .entry))) number count)) (now (t .entry)) (r .number) (now (t .exit)) × (r .place ≡ 0) ⌝ }
 {
     answers::of_call(pending::receipt(t, header, number, OctetSize(count)))
 }
 
 #[no_mangle]
-pub extern "C" fn pruvelaccio_release_value(t: Table, key: Key) -> TableAnswer
-    ensures { λ r. ⌜ Did (releasing key) t (r .number) (r .table) × (r .place ≡ 0) ⌝ }
+pub extern "C" fn pruvelaccio_release_octets(t: &mut [u8; TABLE], key: &[u8; KEY]) -> TableAnswer
+    ensures { λ r. ⌜ Transition (callOf (releasing (keyIn (now (key .entry))))) (now (t .entry)) (r .number) (now (t .exit)) × (r .place ≡ 0) ⌝ }
 {
     answers::of_call(pending::release(t, key))
 }
 
 #[no_mangle]
-pub extern "C" fn pruvelaccio_list_row_value(t: Table, number: u32, out: &mut [u8]) -> SizeAnswer
-    ensures { λ r. ⌜ (r ≡ listNumbers (listing.listing t number (length (now (out .entry))))) × (now (out .exit) ≡ listing.outputAfter (see t) number (listing.listing t number (length (now (out .entry)))) (now (out .entry))) ⌝ }
+pub extern "C" fn pruvelaccio_list_row_octets(
+    t: &[u8; TABLE],
+    number: u32,
+    out: &mut [u8],
+) -> SizeAnswer
+    ensures { λ r. ⌜ (r ≡ listNumbers (listing.listing (tableIn (now (t .entry))) number (length (now (out .entry))))) × (now (out .exit) ≡ listing.outputAfter (see (tableIn (now (t .entry)))) number (listing.listing (tableIn (now (t .entry))) number (length (now (out .entry)))) (now (out .entry))) ⌝ }
 {
     let listed = listing::list_row(t, number, out);
     answers::of_listing(listed)
+}
+
+// The number of the layout, in the export's own name too: a program that was built for another layout finds
+// no such name and does not link.
+#[no_mangle]
+pub extern "C" fn pruvelaccio_layout_1() -> u32
+    ensures { λ r. ⌜ r ≡ 1 ⌝ }
+{
+    1
 }

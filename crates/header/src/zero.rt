@@ -2,39 +2,12 @@
 ghost use mathlib.Core.Path.{_≡_};
 ghost use Rattle.header.specs.Zero.{noOptionalText, noAddress};
 use crate::Address;
-use crate::Date;
-use crate::Dtg;
 use crate::OptionalText;
-use crate::Requests;
-use crate::Stamp;
-use crate::Time;
 use optional::OptionalNumber;
 
 pub const NO_NUMBER: OptionalNumber = OptionalNumber {
     present: false,
     value: 0,
-};
-
-pub const NO_STAMP: Stamp = Stamp {
-    dtg: Dtg {
-        date: Date {
-            year: 0,
-            month: 0,
-            day: 0,
-        },
-        time: Time {
-            hour: 0,
-            minute: 0,
-            second: 0,
-        },
-    },
-    extension: NO_NUMBER,
-};
-
-pub const NO_REQUESTS: Requests = Requests {
-    machine: false,
-    acknowledge: false,
-    reply: false,
 };
 
 pub fn no_optional_text() -> OptionalText

@@ -3,6 +3,10 @@ pub mod SheetIs
 mod Runs
 mod Places
 mod Faults
+mod AtPlace
+mod Filled
+mod Fitting
+mod Images
 mod SameKeys
 pub mod SameTables
 pub mod SameCalls

@@ -1,6 +1,6 @@
 -- DEMAND 3, of the number 30: from a table with no used row, 30 never arises. In a run of any list of postings, receipts and releases, refused ones included, no
 -- answer is 30, nor is it the answer of the listing's call before the first call or after any.
--- The hypotheses: the run, whose steps are the contracts of `post`, `receipt` and `release` (`Did`), and that the first table has no used row. Assumes nothing else.
+-- The hypotheses: the run, whose steps are the contracts of `post`, `receipt` and `release` (`Transition`), and that the first table has no used row. Assumes nothing else.
 use Prim.Native.Nat.{ℕ, zero, suc, _<_}
 use mathlib.Core.Path.{_≡_}
 use mathlib.Core.Bool.{Bool, true, false, cond, _&&_}
@@ -21,15 +21,14 @@ use Rattle.calls.specs.Runs.{answers}
 use Rattle.header.specs.declared.Header.{Header}
 use Rattle.writer.specs.Writing.{faultOf}
 use Rattle.order.specs.declared.Key.{Key as DeclaredKey}
-use Rattle.table.specs.Rows.{see}
 use Rattle.table.specs.WellFormed.{wellFormed}
-use Rattle.table.specs.declared.Table.{Table}
+use Rattle.table_octets.specs.Table.{tableIn}
 use Rattle.arguments.specs.Arguments.{Arguments, posting, receiving, releasing, hasBlock, blockAt, asks, someRecipient, oneRecipient, named, postingFault, receiptFault, callOf}
 use Rattle.row_text.specs.Text.{listed}
 use Rattle.listing.specs.Listing.{done, rejected, listingOf, listing}
 use Rattle.history.specs.History.{Run}
 use Rattle.history.specs.Demand3.{None30, NoListing30}
-use Rattle.history.proofs.Runs.{AllWell, onRows, went, empty-well}
+use Rattle.history.proofs.Runs.{rowsIn, AllWell, onRows, went, empty-well}
 use Rattle.history.proofs.Faults.{first-gives, test-gives, key-gives, fault-gives}
 
 -- ---- every number is below 30
@@ -104,12 +103,12 @@ answers-none [] s = tt
 answers-none (c ∷ cs) s = (λ e. absurd (omega (arith, table-below c s)), answers-none cs (onRows c s .1))
 
 -- a run from a well-formed table
-pub never-30-well : {t e : Table} {cs : List Arguments} {xs : List ℕ} {ts : List Table} → Run t cs xs ts e → wellFormed t ≡ true → None30 xs
-never-30-well {t = t} {cs = cs} run w = rw (went run w .answered) (answers-none cs (see t))
+pub never-30-well : {t e : List ℕ} {cs : List Arguments} {xs : List ℕ} {ts : List (List ℕ)} → Run t cs xs ts e → wellFormed (tableIn t) ≡ true → None30 xs
+never-30-well {t = t} {cs = cs} run w = rw (went run w .answered) (answers-none cs (rowsIn t))
 
 -- a run from a table with no used row
-pub never-30 : {t e : Table} {cs : List Arguments} {xs : List ℕ} {ts : List Table} → Run t cs xs ts e → t .count ≡ 0 → None30 xs
-never-30 {t = t} run empty = never-30-well run (empty-well t empty)
+pub never-30 : {t e : List ℕ} {cs : List Arguments} {xs : List ℕ} {ts : List (List ℕ)} → Run t cs xs ts e → tableIn t .count ≡ 0 → None30 xs
+never-30 {t = t} run empty = never-30-well run (empty-well (tableIn t) empty)
 
 -- ---- the listing
 
@@ -117,14 +116,14 @@ not-thirty : (b : Bool) (k p : ℕ) → pick b (done k) (rejected 11 0) ≡ reje
 not-thirty true k p e = let z : _≡_ {A = ℕ} 0 1 = cc in omega arith
 not-thirty false k p e = let z : _≡_ {A = ℕ} 11 30 = cc in omega arith
 
-listing-none : (n room : ℕ) (ts : List Table) → AllWell ts → NoListing30 n room ts
+listing-none : (n room : ℕ) (ts : List (List ℕ)) → AllWell ts → NoListing30 n room ts
 unfolding listing listingOf
 listing-none n room [] w = tt
 listing-none n room (t ∷ ts) w = (
-  λ p e. let g : listingOf (see t) n room ≡ rejected 30 p = rw (w .0) at e in not-thirty (leb (length (listed (see t) n)) room) (length (listed (see t) n)) p g,
+  λ p e. let g : listingOf (rowsIn t) n room ≡ rejected 30 p = rw (w .0) at e in not-thirty (leb (length (listed (rowsIn t) n)) room) (length (listed (rowsIn t) n)) p g,
   listing-none n room ts (w .1),
 )
 
 -- before the first call and after each
-pub listing-never-30 : {t e : Table} {cs : List Arguments} {xs : List ℕ} {ts : List Table} → Run t cs xs ts e → t .count ≡ 0 → (n room : ℕ) → NoListing30 n room ts
-listing-never-30 {t = t} {ts = ts} run empty n room = listing-none n room ts (went run (empty-well t empty) .well)
+pub listing-never-30 : {t e : List ℕ} {cs : List Arguments} {xs : List ℕ} {ts : List (List ℕ)} → Run t cs xs ts e → tableIn t .count ≡ 0 → (n room : ℕ) → NoListing30 n room ts
+listing-never-30 {t = t} {ts = ts} run empty n room = listing-none n room ts (went run (empty-well (tableIn t) empty) .well)

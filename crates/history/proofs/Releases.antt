@@ -2,7 +2,7 @@
 use Prim.Native.Nat.{ℕ, zero, suc}
 use mathlib.Core.Path.{_≡_, refl, sym, _∙_, subst}
 use mathlib.Core.Bool.{Bool, true, false}
-use mathlib.Core.List.{[], _∷_}
+use mathlib.Core.List.{List, [], _∷_}
 use mathlib.Core.Logic.{inl, inr}
 use mathlib.Core.Option.{Option, none, some}
 use lib.ListN.{length}
@@ -16,9 +16,9 @@ use Rattle.order.specs.Calls.{Row, Rows, rules, onTable}
 use Rattle.order.specs.declared.Key.{Key as DeclaredKey}
 use Rattle.table.specs.Rows.{see}
 use Rattle.table.specs.WellFormed.{wellFormed}
-use Rattle.table.specs.declared.Table.{Table}
+use Rattle.table_octets.specs.Table.{tableIn}
 use Rattle.arguments.specs.Arguments.{releasing, named, callOf}
-use Rattle.pending.specs.Calls.{Did}
+use Rattle.transitions.specs.Transition.{Transition}
 use Rattle.history.specs.Demand3.{OneOf}
 use Rattle.history.proofs.Faults.{key-gives}
 
@@ -50,6 +50,6 @@ answer-given : (b : Bool) (n : ℕ) → Given n → Given (pick b n 30)
 answer-given true n g = g
 answer-given false n g = ill-formed
 
-pub releases : (k : DeclaredKey) {t t′ : Table} {n : ℕ} → Did (releasing k) t n t′ → Given n
+pub releases : (k : DeclaredKey) {t t′ : List ℕ} {n : ℕ} → Transition (callOf (releasing k)) t n t′ → Given n
 unfolding callOf
-releases k {t} d = subst Given (sym (d .answer)) (answer-given (wellFormed t) _ (named-given (keyFault k) (keyOf k) (see t) (key-given k)))
+releases k {t} d = subst Given (sym (d .answer)) (answer-given (wellFormed (tableIn t)) _ (named-given (keyFault k) (keyOf k) (see (tableIn t)) (key-given k)))

@@ -48,10 +48,10 @@ key-check x y s = rw (address-check (x .address) (y .address) (s .0), stamp-chec
 
 -- ---- a legal address: a URN or a name, and a name in its cells
 
-record LegalAddress (a : DeclaredAddress) : Type 0 where
-  either : a .name .present ≡ not (a .urn .present)
-  cells : a .name .present ≡ true → length (a .name .text .chars) ≡ 64
-  count : a .name .present ≡ true → a .name .text .len ≤ 64
+pub record LegalAddress (a : DeclaredAddress) : Type 0 where
+  pub either : a .name .present ≡ not (a .urn .present)
+  pub cells : a .name .present ≡ true → length (a .name .text .chars) ≡ 64
+  pub count : a .name .present ≡ true → a .name .text .len ≤ 64
 
 one-of : (n u : Bool) → _≡_ {A = ℕ} (pick (same n (not u)) 0 6) 0 → n ≡ not u
 one-of true true e = absurd (omega arith)
@@ -67,7 +67,7 @@ text-legal true t b h =
     (eqb-true _ 64 (g .0), leb-true _ 64 (g .1))
 text-legal false t b h = (cc, let z : _≡_ {A = ℕ} 0 1 = cc in absurd (omega arith))
 
-legal-address : (a : DeclaredAddress) → address .check a ≡ 0 → LegalAddress a
+pub legal-address : (a : DeclaredAddress) → address .check a ≡ 0 → LegalAddress a
 unfolding address unitName viewed _thenBy_ tested flag first
 legal-address a h =
     let u = first-zero (maybe 24 0 16777215 .check (a .urn)) _ h .1 in

@@ -24,6 +24,7 @@ use Rattle.table.specs.declared.Recipient.{Recipient}
 use Rattle.table.specs.declared.Row.{Row}
 use Rattle.table.specs.declared.Table.{Table}
 use Rattle.table.proofs.Parts.{and-both, fine-table, fine-row}
+use Rattle.table_octets.specs.Table.{tableIn}
 use Rattle.arguments.specs.Arguments.{Arguments, callOf}
 use Rattle.pending.specs.Calls.{answerOn, rowsAfter}
 use Rattle.listing.specs.Listing.{Listing, rejected, listingOf, listing, outputAfter}
@@ -38,7 +39,7 @@ module _ (a : Requests) where
   unfolding sameRecipient recipientFine
   recipient-fine-same x y s = rw (address-check (x .address) (y .address) (s .0), s .1 .0, s .1 .1 .0, s .1 .1 .1)
 
-  address-legal : (x : Recipient) → recipientFine a x ≡ true → address .check (x .address) ≡ 0
+  pub address-legal : (x : Recipient) → recipientFine a x ≡ true → address .check (x .address) ≡ 0
   unfolding recipientFine
   address-legal x e =
       let p = and-both _ _ e .0 in
@@ -149,9 +150,9 @@ module _ (x y : Table) (s : SameTable x y) where
   output-same true e n out = rw (← same-well, e, same-see e)
   output-same false e n out = rw (← same-well, e)
 
-  -- the listing's call answers the same and leaves the same output
-  pub same-listings : (n : ℕ) (out : List ℕ) → tableListing x n out ≡ tableListing y n out
-  same-listings n out = ap₂ (λ (l : Listing) (o : List ℕ). (l, o)) (same-listing n (length out)) (output-same (wellFormed x) refl n out)
+-- the listing's call answers the same and leaves the same output
+pub same-listings : (x y : List ℕ) → SameTable (tableIn x) (tableIn y) → (n : ℕ) (out : List ℕ) → tableListing x n out ≡ tableListing y n out
+same-listings x y s n out = ap₂ (λ (l : Listing) (o : List ℕ). (l, o)) (same-listing (tableIn x) (tableIn y) s n (length out)) (output-same (tableIn x) (tableIn y) s (wellFormed (tableIn x)) refl n out)
 
 -- ---- the other way round: recipients
 

@@ -2,6 +2,7 @@
 use Prim.Native.Nat.{ℕ, zero, suc}
 use mathlib.Core.Path.{_≡_, refl, sym, _∙_}
 use mathlib.Core.Bool.{Bool, true, false}
+use mathlib.Core.List.{List}
 use mathlib.Core.Logic.{inl, inr}
 use mathlib.Core.Option.{none, some}
 use native.Mathlib.Omega.{arith}
@@ -11,14 +12,14 @@ use Rattle.calls.specs.Operations.{key}
 use Rattle.order.specs.Values.{keyFault}
 use Rattle.order.specs.Calls.{Operation, Call, onTable}
 use Rattle.order.specs.Sheet as theory
-use Rattle.table.specs.Rows.{see}
 use Rattle.table.specs.WellFormed.{wellFormed}
-use Rattle.table.specs.declared.Table.{Table}
+use Rattle.table_octets.specs.Table.{tableIn}
 use Rattle.arguments.specs.Arguments.{Arguments, posting, receiving, releasing, postingFault, receiptFault, named, callOf, message}
 use Rattle.arguments.proofs.Names.{message-is}
-use Rattle.pending.specs.Calls.{Did}
+use Rattle.transitions.specs.Transition.{Transition}
 use Rattle.history.specs.Sheet.{Sheet, sheet}
 use Rattle.history.proofs.SheetIs.{sheet-is}
+use Rattle.history.proofs.Runs.{stays}
 
 -- what the arguments refuse is refused with a number
 named-refused : (f : ℕ) (d : Operation) (n : ℕ) → named f d ≡ inl n → n ≡ 0 → ⊥
@@ -48,11 +49,11 @@ pub unnamed : (x : Arguments) → message x ≡ none → (s : Sheet) → (sheet 
 unfolding theory.sheet operations.sheet
 unnamed x e s = let r = arguments-refuse x e in rw (sheet-is x s, r .said) (r .positive, refl)
 
-pub unnamed-call : (x : Arguments) → message x ≡ none → {t t′ : Table} {n : ℕ} → Did x t n t′ → (n ≡ 0 → ⊥) × (t′ ≡ t)
+pub unnamed-call : (x : Arguments) → message x ≡ none → {t t′ : List ℕ} {n : ℕ} → Transition (callOf x) t n t′ → (n ≡ 0 → ⊥) × (t′ ≡ t)
 unfolding onTable operations.onTable step
-unnamed-call x e {t} {t′} {n} d = let p = refused in (p, d .refused p)
+unnamed-call x e {t} {t′} {n} d = (refused, stays (callOf x) t t′ n d refused)
   where
-    go : (b : Bool) → wellFormed t ≡ b → n ≡ 0 → ⊥
+    go : (b : Bool) → wellFormed (tableIn t) ≡ b → n ≡ 0 → ⊥
     go false w z = let a : n ≡ 30 = d .answer ∙ rw w in omega (arith, z, a)
     go true w z =
         let r = arguments-refuse x e in
@@ -60,4 +61,4 @@ unnamed-call x e {t} {t′} {n} d = let p = refused in (p, d .refused p)
         r .positive (omega (arith, z, a))
 
     refused : n ≡ 0 → ⊥
-    refused = go (wellFormed t) refl
+    refused = go (wellFormed (tableIn t)) refl

@@ -8,20 +8,20 @@ use Rattle.header.specs.declared.Header.{Header}
 use Rattle.order.specs.Values.{Address, Key}
 use Rattle.calls.specs.Runs.{Ran}
 use Rattle.table.specs.Rows.{see}
-use Rattle.table.specs.declared.Table.{Table}
-use Rattle.arguments.specs.Arguments.{Arguments, posting, receiving, releasing, message, answerer}
+use Rattle.table_octets.specs.Table.{tableIn}
+use Rattle.arguments.specs.Arguments.{Arguments, posting, receiving, releasing, callOf, message, answerer}
+use Rattle.transitions.specs.Transition.{Transition}
 use Rattle.history.specs.Sheet.{Sheet, inKeyOrder}
-use Rattle.pending.specs.Calls.{Did}
 use Rattle.listing.specs.Listing.{Listing, listing, listingOf, outputAfter}
 
--- a run of the calls from table t: their answers, the tables before the first call and after each, and the last table. Each step is what the contracts of
--- `post`, `receipt` and `release` promise
-abbrev pub Run : Table → List Arguments → List ℕ → List Table → Table → Type 0
-Run = Ran Did
+-- a run of the calls from the table with the octets t: their answers, the tables' octets before the first call and after each, and the last table's. Each step is
+-- what the contracts of `post`, `receipt` and `release` promise
+abbrev pub Run : List ℕ → List Arguments → List ℕ → List (List ℕ) → List ℕ → Type 0
+Run = Ran (λ a t n t′. Transition (callOf a) t n t′)
 
--- what the listing's call answers and leaves in the output, for any row number and output: of a table, as its contract promises, and of the sheet's rows
-abbrev pub tableListing : Table → ℕ → List ℕ → Listing × List ℕ
-tableListing t n out = (listing t n (length out), outputAfter (see t) n (listing t n (length out)) out)
+-- what the listing's call answers and leaves in the output, for any row number and output: of a table's octets, as its contract promises, and of the sheet's rows
+abbrev pub tableListing : List ℕ → ℕ → List ℕ → Listing × List ℕ
+tableListing t n out = let l = listing (tableIn t) n (length out) in (l, outputAfter (see (tableIn t)) n l out)
 
 abbrev pub sheetListing : Sheet → ℕ → List ℕ → Listing × List ℕ
 sheetListing s n out = let l = listingOf (inKeyOrder s) n (length out) in (l, outputAfter (inKeyOrder s) n l out)

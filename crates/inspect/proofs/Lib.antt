@@ -1,3 +1,5 @@
 mod Told
 mod Tests
 mod Sought
+mod Entries
+mod Looked

@@ -1,43 +1,57 @@
-// What each row of a table has to pass, and its neighbours: legal, in order, with fitting codes.
+// What each row of a table has to pass where it lies in lent octets, and its neighbours: legal, in order, with fitting codes.
 ghost use mathlib.Core.Path.{_≡_};
 ghost use mathlib.Core.Bool.{true, false, _&&_, _||_};
+ghost use mathlib.Core.List.{map};
 ghost use Prim.Native.Nat.{_≤_};
 ghost use lib.Dec.{eqb};
+ghost use lib.ListN.{length, take};
 ghost use Rattle.codec.specs.Refusals.{checkNo};
 ghost use Rattle.header.specs.Rules.{all};
+ghost use Rattle.cells.specs.Cells.{many};
 ghost use Rattle.calls.specs.Order.{choose};
 ghost use Rattle.order.specs.Requests.{answeredBy};
-ghost use Rattle.order.specs.Values.{addressOf, keyOf, byAddress, byKey, comparisonOf, keyFault};
-ghost use Rattle.table.specs.Rows.{usedRecipients};
-ghost use Rattle.table.specs.Search.{addressesOf};
+ghost use Rattle.order.specs.Values.{addressOf, keyOf, byAddress, byKey, comparisonOf};
 ghost use Rattle.table.specs.WellFormed.{fits, unanswered, increasing, recipientFine, rowFine};
-use crate::address::check_address;
-use crate::moment::check_stamp;
+ghost use Rattle.table_octets.specs.Table.{sizeOfRecipient, recipientIn, sizeOfRowRecipients, sizeOfRow, rowIn};
+use crate::keys::check_key;
+use crate::keys::compare_keys;
+use cells::entry;
+use cells::load_word;
+use checker::address::check_address;
 use codec::Check;
-use codec::earlier;
-use header::Address;
 use header::Requests;
 use header::addressees::one_less;
+use leaves::requests::load_requests;
 use order::Comparison;
-use order::Key;
 use order::compare_addresses;
-use order::compare_keys;
-use table::Recipient;
-use table::Row;
 use table::codes::all_of;
 use table::codes::answers_acknowledge;
 use table::codes::answers_machine;
 use table::codes::answers_reply;
 use table::codes::any_of;
 use table::codes::code_fits;
+use table_octets::in_recipient;
+use table_octets::in_row;
 
-// The first refusal of a key.
-pub fn check_key(k: Key) -> Check
-    ensures { λ r. ⌜ checkNo r ≡ keyFault k ⌝ }
+// The code at each request of a recipient; 0 where there is none.
+pub struct RecipientCodes {
+    pub machine: u32,
+    pub acknowledge: u32,
+    pub reply: u32,
+}
+
+pub fn load_codes(x: &[u8]) -> RecipientCodes
+    requires { ⌜ length (now x) ≡ sizeOfRecipient ⌝ }
+    ensures { λ r. ⌜ (r .machine ≡ recipientIn (now (x .entry)) .machine) × (r .acknowledge ≡ recipientIn (now (x .entry)) .acknowledge) × (r .reply ≡ recipientIn (now (x .entry)) .reply) ⌝ }
 {
-    let address = check_address(k.address);
-    let stamp = check_stamp(k.stamp);
-    earlier(address, stamp)
+    let machine = load_word(&x[in_recipient::MACHINE..in_recipient::ACKNOWLEDGE]);
+    let acknowledge = load_word(&x[in_recipient::ACKNOWLEDGE..in_recipient::REPLY]);
+    let reply = load_word(&x[in_recipient::REPLY..in_recipient::END]);
+    RecipientCodes {
+        machine: machine,
+        acknowledge: acknowledge,
+        reply: reply,
+    }
 }
 
 fn is_fine(c: Check) -> bool
@@ -60,7 +74,7 @@ fn is_less(c: Comparison) -> bool
 }
 
 // Each code is at an asked request that it answers.
-fn codes_fit(asked: Requests, r: Recipient) -> bool
+fn codes_fit(asked: Requests, r: RecipientCodes) -> bool
     ensures { λ s. ⌜ s ≡ fits (asked .machine) (λ c. answeredBy c .machine) (r .machine) && fits (asked .acknowledge) (λ c. answeredBy c .acknowledge) (r .acknowledge) && fits (asked .reply) (λ c. answeredBy c .reply) (r .reply) ⌝ }
 {
     let machine = code_fits(asked.machine, answers_machine(r.machine), r.machine);
@@ -73,7 +87,7 @@ fn codes_fit(asked: Requests, r: Recipient) -> bool
     all_of(machine, acknowledge, reply)
 }
 
-fn any_two(r: Recipient) -> bool
+fn any_two(r: RecipientCodes) -> bool
     ensures { λ s. ⌜ s ≡ eqb (r .machine) 2 || eqb (r .acknowledge) 2 || eqb (r .reply) 2 ⌝ }
 {
     let machine = r.machine == 2;
@@ -92,7 +106,7 @@ fn is_open(asked: bool, code: u32) -> bool
 }
 
 // A request of the recipient is still open.
-fn any_open(asked: Requests, r: Recipient) -> bool
+fn any_open(asked: Requests, r: RecipientCodes) -> bool
     ensures { λ s. ⌜ s ≡ unanswered (asked .machine) (r .machine) || unanswered (asked .acknowledge) (r .acknowledge) || unanswered (asked .reply) (r .reply) ⌝ }
 {
     let machine = is_open(asked.machine, r.machine);
@@ -102,59 +116,51 @@ fn any_open(asked: Requests, r: Recipient) -> bool
 }
 
 // 2 settles every request at once: beside it none is open.
-pub fn recipient_fine(asked: Requests, r: Recipient) -> bool
-    ensures { λ s. ⌜ s ≡ recipientFine asked r ⌝ }
+pub fn recipient_fine(asked: Requests, x: &[u8]) -> bool
+    requires { ⌜ length (now x) ≡ sizeOfRecipient ⌝ }
+    ensures { λ s. ⌜ s ≡ recipientFine asked (recipientIn (now (x .entry))) ⌝ }
 {
-    if !is_fine(check_address(r.address)) {
+    if !is_fine(check_address(&x[in_recipient::ADDRESS..in_recipient::MACHINE])) {
         return false;
     }
-    if !codes_fit(asked, r) {
+    let codes = load_codes(x);
+    if !codes_fit(asked, codes) {
         return false;
     }
-    if any_two(r) {
-        return !any_open(asked, r);
+    if any_two(codes) {
+        return !any_open(asked, codes);
     }
     true
 }
 
-fn address_before(a: Address, b: Address) -> bool
-    ensures { λ r. ⌜ r ≡ choose (byAddress (addressOf a) (addressOf b)) true false false ⌝ }
-{
-    is_less(compare_addresses(a, b))
-}
-
-fn key_before(a: Key, b: Key) -> bool
-    ensures { λ r. ⌜ r ≡ choose (byKey (keyOf a) (keyOf b)) true false false ⌝ }
-{
-    is_less(compare_keys(a, b))
-}
-
 // The first has none before it; any other comes after the one before.
-fn address_follows(i: usize, last: Address, x: Address) -> bool
-    ensures { λ r. ⌜ r ≡ eqb i 0 || choose (byAddress (addressOf last) (addressOf x)) true false false ⌝ }
+fn recipient_follows(i: usize, last: &[u8], x: &[u8]) -> bool
+    requires { ⌜ (length (now last) ≡ sizeOfRecipient) × (length (now x) ≡ sizeOfRecipient) ⌝ }
+    ensures { λ r. ⌜ r ≡ eqb i 0 || choose (byAddress (addressOf (recipientIn (now (last .entry)) .address)) (addressOf (recipientIn (now (x .entry)) .address))) true false false ⌝ }
 {
     if i == 0 {
         return true;
     }
-    address_before(last, x)
+    is_less(compare_addresses(
+        &last[in_recipient::ADDRESS..in_recipient::MACHINE],
+        &x[in_recipient::ADDRESS..in_recipient::MACHINE],
+    ))
 }
 
-// Each recipient is fine, and they are in order: none twice. One loop for both, because each function
-// that indexes a row has a copy of it.
-fn recipients_right(r: Row) -> bool
-    requires { ⌜ r .count ≤ 16 ⌝ }
-    ensures { λ s. ⌜ s ≡ all (recipientFine (r .asked)) (usedRecipients r) && increasing byAddress (addressesOf r) ⌝ }
+// Each recipient is fine, and they are in order: none twice.
+fn recipients_right(asked: Requests, list: &[u8], count: u32) -> bool
+    requires { ⌜ (length (now list) ≡ sizeOfRowRecipients) × (count ≤ 16) ⌝ }
+    ensures { λ s. ⌜ s ≡ all (recipientFine asked) (take count (many recipientIn sizeOfRecipient 16 (now (list .entry)))) && increasing byAddress (map (λ x. addressOf (x .address)) (take count (many recipientIn sizeOfRecipient 16 (now (list .entry))))) ⌝ }
 {
-    let asked = r.asked;
-    let n = r.count as usize;
+    let n = count as usize;
     let mut i: usize = 0;
     while i < n {
-        let x = r.recipients[i];
+        let x = entry(list, i, in_row::ENTRY);
         if !recipient_fine(asked, x) {
             return false;
         }
-        let last = r.recipients[one_less(i)];
-        if !address_follows(i, last.address, x.address) {
+        let last = entry(list, one_less(i), in_row::ENTRY);
+        if !recipient_follows(i, last, x) {
             return false;
         }
         i += 1;
@@ -168,30 +174,37 @@ fn any_asked(a: Requests) -> bool
     any_of(a.machine, a.acknowledge, a.reply)
 }
 
-pub fn row_fine(r: Row) -> bool
-    ensures { λ s. ⌜ s ≡ rowFine r ⌝ }
+pub fn row_fine(r: &[u8]) -> bool
+    requires { ⌜ length (now r) ≡ sizeOfRow ⌝ }
+    ensures { λ s. ⌜ s ≡ rowFine (rowIn (now (r .entry))) ⌝ }
 {
-    if !is_fine(check_key(r.key)) {
+    if !is_fine(check_key(&r[in_row::KEY..in_row::ASKED])) {
         return false;
     }
-    if !any_asked(r.asked) {
+    let asked = load_requests(&r[in_row::ASKED..in_row::UNUSED]);
+    if !any_asked(asked) {
         return false;
     }
-    let count = r.count;
+    let count = load_word(&r[in_row::COUNT..in_row::END]);
     if count < 1 {
         return false;
     }
     if 16 < count {
         return false;
     }
-    recipients_right(r)
+    recipients_right(asked, &r[in_row::RECIPIENTS..in_row::COUNT], count)
 }
 
-pub fn key_follows(i: usize, last: Key, x: Key) -> bool
-    ensures { λ r. ⌜ r ≡ eqb i 0 || choose (byKey (keyOf last) (keyOf x)) true false false ⌝ }
+// As with recipients: the first row has none before it.
+pub fn row_follows(i: usize, last: &[u8], x: &[u8]) -> bool
+    requires { ⌜ (length (now last) ≡ sizeOfRow) × (length (now x) ≡ sizeOfRow) ⌝ }
+    ensures { λ r. ⌜ r ≡ eqb i 0 || choose (byKey (keyOf (rowIn (now (last .entry)) .key)) (keyOf (rowIn (now (x .entry)) .key))) true false false ⌝ }
 {
     if i == 0 {
         return true;
     }
-    key_before(last, x)
+    is_less(compare_keys(
+        &last[in_row::KEY..in_row::ASKED],
+        &x[in_row::KEY..in_row::ASKED],
+    ))
 }

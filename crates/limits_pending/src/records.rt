@@ -2,14 +2,15 @@
 ghost use mathlib.Core.Path.{_≡_};
 ghost use lib.ListN.{length};
 ghost use Rattle.record_octets.specs.Record.{sizeOfAddresses, sizeOfAddressesList, sizeOfBlocks, sizeOfBlocksList, sizeOfFront, sizeOfHeader, sizeOfOptionalAddress, sizeOfOptionalAddresses};
+ghost use Rattle.table_octets.specs.Table.{sizeOfKey};
 use crate::block::block;
 use crate::block::stamp;
+use crate::put;
 use crate::put::address;
 use crate::put::flag;
 use crate::words::*;
 use cells::store_word;
 use header::Address;
-use order::Key;
 use record_octets::RECORD;
 use record_octets::in_addresses;
 use record_octets::in_blocks;
@@ -17,6 +18,8 @@ use record_octets::in_front;
 use record_octets::in_header;
 use record_octets::in_optional_address;
 use record_octets::in_optional_addresses;
+use table_octets::KEY;
+use table_octets::in_key;
 
 // All alike.
 fn block_list(list: &mut [u8], n: Numbers)
@@ -115,13 +118,18 @@ pub fn record(line: Line, h: &mut [u8; RECORD]) {
     header(h, line);
 }
 
-pub fn key(line: Line) -> Key {
+fn key(x: &mut [u8], line: Line)
+    requires { ⌜ length (now x) ≡ sizeOfKey ⌝ }
+{
     let from = line.from;
     let n = line.numbers;
-    Key {
-        address: from,
-        stamp: stamp(n),
-    }
+    address(&mut x[in_key::ADDRESS..in_key::STAMP], from);
+    put::stamp(&mut x[in_key::STAMP..in_key::END], stamp(n));
+}
+
+// The key of a release. What is absent in it stays as it was.
+pub fn put_key(line: Line, k: &mut [u8; KEY]) {
+    key(k, line);
 }
 
 // The octets of user data: unless a line tells them, one, and none behind a receipt.

@@ -4,7 +4,7 @@ use crate::tell::print;
 use crate::tell::print_number;
 use crate::tell::print_refused;
 use listing::Listed;
-use table::Table;
+use table_octets::TABLE;
 
 // The octets of every output. A row may be longer, but none here is.
 const WHOLE: usize = 4096;
@@ -50,7 +50,7 @@ fn print_first(out: &[u8], n: usize) {
 }
 
 // The text of a row; a refusal would show.
-fn print_row(t: Table, number: u32) {
+fn print_row(t: &[u8; TABLE], number: u32) {
     let mut space = [0u8; WHOLE];
     let out: &mut [u8] = &mut space;
     fill(out);
@@ -61,7 +61,7 @@ fn print_row(t: Table, number: u32) {
 }
 
 // The whole listing, with a row past the last that a full table has.
-pub fn print_rows(t: Table) {
+pub fn print_rows(t: &[u8; TABLE]) {
     let mut number: u32 = 0;
     while number < 34 {
         print_row(t, number);
@@ -70,7 +70,7 @@ pub fn print_rows(t: Table) {
 }
 
 // The listing is lent only the first `room` octets.
-fn list_first(t: Table, number: u32, out: &mut [u8], room: usize) -> Listed {
+fn list_first(t: &[u8; TABLE], number: u32, out: &mut [u8], room: usize) -> Listed {
     if out.len() < room {
         return listing::list_row(t, number, out);
     }
@@ -78,7 +78,7 @@ fn list_first(t: Table, number: u32, out: &mut [u8], room: usize) -> Listed {
 }
 
 // One row in so many octets: how many were written, and whether the others are as they were.
-pub fn print_line(t: Table, number: u32, room: usize) {
+pub fn print_line(t: &[u8; TABLE], number: u32, room: usize) {
     let mut space = [0u8; WHOLE];
     let out: &mut [u8] = &mut space;
     fill(out);

@@ -1,78 +1,112 @@
 // Tables that no call makes: one change in a table that calls have made.
-use header::zero::NO_REQUESTS;
-use header::zero::NO_STAMP;
-use header::zero::no_address;
-use order::Key;
-use table::Recipient;
-use table::Row;
-use table::Table;
+ghost use mathlib.Core.Path.{_≡_};
+ghost use Prim.Native.Nat.{_+_, _≤_};
+ghost use lib.ListN.{length};
+ghost use Rattle.table_octets.specs.Table.{sizeOfKey, sizeOfRecipient, sizeOfRow, sizeOfTable};
+use cells::clear;
+use cells::copy;
+use cells::move_up;
+use cells::store_word;
+use record_octets::in_address;
+use record_octets::in_dtg;
+use record_octets::in_optional_number;
+use record_octets::in_stamp;
+use record_octets::in_time;
+use table_octets::TABLE;
+use table_octets::in_key;
+use table_octets::in_recipient;
+use table_octets::in_row;
+use table_octets::in_table;
+
+// The first two of things of n octets each change places.
+fn exchange(list: &mut [u8], n: usize, spare: &mut [u8])
+    requires { ⌜ (n + n ≤ length (now list)) × (n ≤ length (now spare)) ⌝ }
+{
+    copy(spare, 0, list, n, n);
+    move_up(list, 0, n, n);
+    copy(list, 0, spare, 0, n);
+}
 
 // Kinds 11 to 17: a recipient with a code that is wrong in a row that asks for machine and reply, or with an illegal
 // address.
-fn wrong_recipient(recipient: Recipient, kind: u32) -> Recipient {
-    let mut r = recipient;
+fn wrong_recipient(x: &mut [u8], kind: u32)
+    requires { ⌜ length (now x) ≡ sizeOfRecipient ⌝ }
+{
     match kind {
-        11 => r.machine = 3,
-        12 => r.machine = 2,
-        13 => r.acknowledge = 3,
-        14 => r.reply = 1,
-        15 => r.machine = 7,
-        16 => r.address = no_address(),
-        _ => r.address.urn.value = 16777216,
+        11 => store_word(&mut x[in_recipient::MACHINE..in_recipient::ACKNOWLEDGE], 3),
+        12 => store_word(&mut x[in_recipient::MACHINE..in_recipient::ACKNOWLEDGE], 2),
+        13 => store_word(&mut x[in_recipient::ACKNOWLEDGE..in_recipient::REPLY], 3),
+        14 => store_word(&mut x[in_recipient::REPLY..in_recipient::END], 1),
+        15 => store_word(&mut x[in_recipient::MACHINE..in_recipient::ACKNOWLEDGE], 7),
+        16 => clear(&mut x[in_recipient::ADDRESS..in_recipient::MACHINE]),
+        _ => {
+            let urn = &mut x[in_address::URN..in_address::NAME];
+            store_word(
+                &mut urn[in_optional_number::VALUE..in_optional_number::END],
+                16777216,
+            );
+        }
     }
-    r
 }
 
-// A key without an address.
-fn nobody() -> Key {
-    Key {
-        address: no_address(),
-        stamp: NO_STAMP,
-    }
+// A key whose minute is 60.
+fn wrong_minute(key: &mut [u8])
+    requires { ⌜ length (now key) ≡ sizeOfKey ⌝ }
+{
+    let stamp = &mut key[in_key::STAMP..in_key::END];
+    let dtg = &mut stamp[in_stamp::DTG..in_stamp::EXTENSION];
+    let time = &mut dtg[in_dtg::TIME..in_dtg::END];
+    store_word(&mut time[in_time::MINUTE..in_time::SECOND], 60);
 }
 
 // Kinds 4 to 10: a row whose key, requests, count or order of recipients is wrong. A wrong address stands second,
 // where it keeps the order.
-fn wrong_row(row: Row, kind: u32) -> Row {
-    let mut r = row;
-    let first = row.recipients[0];
-    let second = row.recipients[1];
+fn wrong_row(r: &mut [u8], kind: u32)
+    requires { ⌜ length (now r) ≡ sizeOfRow ⌝ }
+{
+    let second = in_row::RECIPIENTS + in_row::ENTRY;
     match kind {
-        4 => r.key.stamp.dtg.time.minute = 60,
-        5 => {
-            let none = nobody();
-            r.key = none;
-        }
-        6 => r.asked = NO_REQUESTS,
-        7 => r.count = 0,
-        8 => r.count = 17,
-        9 => r.recipients[1] = first,
+        4 => wrong_minute(&mut r[in_row::KEY..in_row::ASKED]),
+        5 => clear(&mut r[in_row::KEY..in_row::ASKED]),
+        6 => clear(&mut r[in_row::ASKED..in_row::UNUSED]),
+        7 => store_word(&mut r[in_row::COUNT..in_row::END], 0),
+        8 => store_word(&mut r[in_row::COUNT..in_row::END], 17),
+        9 => move_up(r, in_row::RECIPIENTS, second, in_row::ENTRY),
         10 => {
-            r.recipients[0] = second;
-            r.recipients[1] = first;
+            let mut spare = [0u8; in_row::ENTRY];
+            exchange(
+                &mut r[in_row::RECIPIENTS..in_row::COUNT],
+                in_row::ENTRY,
+                &mut spare,
+            );
         }
-        16 => r.recipients[1] = wrong_recipient(second, kind),
-        17 => r.recipients[1] = wrong_recipient(second, kind),
-        _ => r.recipients[0] = wrong_recipient(first, kind),
+        16 => wrong_recipient(&mut r[second..second + in_row::ENTRY], kind),
+        17 => wrong_recipient(&mut r[second..second + in_row::ENTRY], kind),
+        _ => wrong_recipient(&mut r[in_row::RECIPIENTS..second], kind),
     }
-    r
 }
 
 // Kind 1 is a count over 32; kinds 2 and 3 are a row twice and two rows in the wrong order; kind 18 is a wrong
 // row behind the last, and no fault.
-pub fn wrong(table: Table, kind: u32) -> Table {
-    let mut t = table;
-    let first = table.rows[0];
-    let second = table.rows[1];
+fn wrong_table(t: &mut [u8], kind: u32)
+    requires { ⌜ length (now t) ≡ sizeOfTable ⌝ }
+{
+    let last = 31 * in_table::ENTRY;
     match kind {
-        1 => t.count = 33,
-        2 => t.rows[1] = first,
+        1 => store_word(&mut t[in_table::COUNT..in_table::END], 33),
+        2 => move_up(t, 0, in_table::ENTRY, in_table::ENTRY),
         3 => {
-            t.rows[0] = second;
-            t.rows[1] = first;
+            let mut spare = [0u8; in_table::ENTRY];
+            exchange(t, in_table::ENTRY, &mut spare);
         }
-        18 => t.rows[31] = wrong_row(first, 8),
-        _ => t.rows[0] = wrong_row(first, kind),
+        18 => {
+            move_up(t, 0, in_table::ENTRY, last);
+            wrong_row(&mut t[last..in_table::COUNT], 8);
+        }
+        _ => wrong_row(&mut t[0..in_table::ENTRY], kind),
     }
-    t
+}
+
+pub fn wrong(t: &mut [u8; TABLE], kind: u32) {
+    wrong_table(t, kind);
 }

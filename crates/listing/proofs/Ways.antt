@@ -1,16 +1,21 @@
 -- The rows of the listing by their numbers, and its answers way by way. Assumes nothing.
-use Prim.Native.Nat.{ℕ, zero, suc, _+_, _-_, _<_, _≤_}
-use mathlib.Core.Path.{_≡_, refl, ap, _∙_}
+use Prim.Native.Nat.{ℕ, zero, suc, _+_, _-_, _*_, _<_, _≤_}
+use mathlib.Core.Path.{_≡_, refl, sym, ap, _∙_}
 use mathlib.Core.Bool.{true, false}
 use mathlib.Core.List.{List, [], _∷_, map}
+use lib.Dec.{leb}
 use lib.ListN.{length, getD, length-map}
 use lib.Seq.{getD-take, length-take-le}
-use borrow.Author.Tests.{le-leb, lt-leb}
 use native.Mathlib.Omega.{arith}
+use Rattle.cells.specs.Cells.{part}
+use Rattle.cells.proofs.Lists.{many-count, many-entry}
+use Rattle.cells.proofs.Replaced.{part-length}
 use Rattle.table.specs.Rows.{rowOf, usedRows, see}
 use Rattle.table.specs.WellFormed.{wellFormed}
+use Rattle.table.specs.Zero.{noRow}
 use Rattle.table.specs.declared.Row.{Row}
 use Rattle.table.specs.declared.Table.{Table}
+use Rattle.table_octets.specs.Table.{rowIn, tableIn}
 use Rattle.row_text.specs.Text.{rowText, countLine, rowAt, listed}
 use Rattle.row_text.specs.Puts.{Puts}
 use Rattle.listing.specs.Listing.{Listing, done, rejected, listingOf, listing, outputAfter}
@@ -28,28 +33,33 @@ past-rows (r ∷ l) zero h = absurd (omega arith)
 past-rows (r ∷ l) (suc i) h = past-rows l i (omega arith)
 
 -- the rows by their numbers, where the count is within the cells
-module _ (t : Table) (n : ℕ) (fit : t .count ≤ length (t .rows)) where
-  used : length (usedRows t) ≡ t .count
-  used = length-take-le (t .count) (t .rows) fit
+module _ (s : List ℕ) (n : ℕ) (most : tableIn s .count ≤ 32) where
+  used : length (usedRows (tableIn s)) ≡ tableIn s .count
+  unfolding tableIn
+  used = length-take-le (tableIn s .count) (tableIn s .rows) (rw (many-count rowIn 1592 32 (part 0 50944 s)) most)
 
-  pub count-listed : n ≡ 0 → listed (see t) n ≡ countLine (t .count)
+  pub count-listed : n ≡ 0 → listed (see (tableIn s)) n ≡ countLine (tableIn s .count)
   unfolding listed see
   count-listed e = rw (e, length-map, used)
 
-  behind : 0 < n → listed (see t) n ≡ rowAt (map rowOf (usedRows t)) (n - 1)
+  behind : 0 < n → listed (see (tableIn s)) n ≡ rowAt (map rowOf (usedRows (tableIn s))) (n - 1)
   unfolding listed see
-  behind h = let e : n ≡ suc (n - 1) = omega arith in ap (listed (see t)) e
+  behind h = let e : n ≡ suc (n - 1) = omega arith in ap (listed (see (tableIn s))) e
 
-  pub none-listed : t .count < n → listed (see t) n ≡ []
-  none-listed h = behind (omega arith) ∙ past-rows (usedRows t) (n - 1) (rw used (omega arith))
+  pub none-listed : tableIn s .count < n → listed (see (tableIn s)) n ≡ []
+  none-listed h = behind (omega arith) ∙ past-rows (usedRows (tableIn s)) (n - 1) (rw used (omega arith))
 
-  pub row-listed : (d : Row) → 0 < n → n ≤ t .count → listed (see t) n ≡ rowText (rowOf (getD (t .rows) (n - 1) d))
-  row-listed d k h =
-      behind k ∙ at-row (usedRows t) (n - 1) d (rw used (omega arith))
-      ∙ ap (λ (r : Row). rowText (rowOf r)) (getD-take (t .count) (t .rows) (n - 1) d (omega arith))
+  module _ (first : 0 < n) (last : n ≤ tableIn s .count) where
+    pub row-there : length s ≡ 50948 → (n - 1) * 1592 + 1592 ≤ length (part 0 50944 s)
+    row-there h = let l : length (part 0 50944 s) ≡ 50944 = part-length 0 50944 s (omega arith) in omega arith
 
-  pub row-room : (d : Row) (room : ℕ) → 0 < n → n ≤ t .count → length (listed (see t) n) ≤ room → 0 + length (rowText (rowOf (getD (t .rows) (n - 1) d))) ≤ room
-  row-room d room k h l = let e = ap length (row-listed d k h) in omega arith
+    -- the row's octets
+    pub row-listed : (e : List ℕ) → e ≡ part ((n - 1) * 1592) 1592 (part 0 50944 s) → listed (see (tableIn s)) n ≡ rowText (rowOf (rowIn e))
+    unfolding tableIn
+    row-listed e q =
+        behind first ∙ at-row (usedRows (tableIn s)) (n - 1) noRow (rw used (omega arith))
+        ∙ ap (λ (r : Row). rowText (rowOf r)) (getD-take (tableIn s .count) (tableIn s .rows) (n - 1) noRow (omega arith)
+        ∙ sym (many-entry rowIn 1592 32 (n - 1) (part 0 50944 s) e noRow q (omega arith)))
 
 module _ (t : Table) (n : ℕ) (out : List ℕ) where
   abbrev Told : Listing → List ℕ → Type 0
@@ -60,13 +70,12 @@ module _ (t : Table) (n : ℕ) (out : List ℕ) where
   ill-formed e = (rw e, rw e)
 
   module _ (well : wellFormed t ≡ true) where
-    pub no-room : length out < length (listed (see t) n) → Told (rejected 11 0) out
+    pub no-room : leb (length (listed (see t) n)) (length out) ≡ false → Told (rejected 11 0) out
     unfolding listing listingOf outputAfter
-    no-room l = let e = lt-leb (length (listed (see t) n)) (length out) l in (rw (well, e), rw (well, e))
+    no-room e = (rw (well, e), rw (well, e))
 
-    pub is-listed : length (listed (see t) n) ≤ length out → (after : List ℕ) (q : ℕ) → Puts (listed (see t) n) out after 0 q → Told (done (length (listed (see t) n))) after
+    pub is-listed : leb (length (listed (see t) n)) (length out) ≡ true → (after : List ℕ) (q : ℕ) → Puts (listed (see t) n) out after 0 q → Told (done q) after
     unfolding listing listingOf outputAfter
-    is-listed l after q w =
-        let e = le-leb (length (listed (see t) n)) (length out) l in
+    is-listed e after q w =
         let z : 0 + length (listed (see t) n) ≡ length (listed (see t) n) = omega arith in
-        (rw (well, e), rw (well, e) (rw z at (w .octets)))
+        (ap done (w .ends ∙ z) ∙ rw (well, e), rw (well, e) (rw z at (w .octets)))

@@ -1,5 +1,4 @@
 pub mod Orders
-pub mod Arrays
 pub mod Requests
 pub mod Calls
 mod Texts

@@ -1,13 +1,20 @@
-// The key of a message, and the order of keys: which of two comes first.
+// The key of a message, and the orders that the order of keys is made of: texts and addresses are compared where they lie in lent
+// octets, stamps by value.
 ghost use mathlib.Core.Path.{_≡_};
+ghost use lib.ListN.{length, take};
 ghost use Rattle.text.specs.Texts.{charsOf};
 ghost use Rattle.calls.specs.Order.{then, byNumber, list, option};
-ghost use Rattle.order.specs.Values.{comparisonOf, optionOf, threeOf, dtgOf, momentOf, addressOf, keyOf, byMoment, byAddress, byKey};
+ghost use Rattle.record_octets.specs.Record.{sizeOfText, textIn, sizeOfOptionalText, optionalTextIn, sizeOfAddress, addressIn};
+ghost use Rattle.order.specs.Values.{comparisonOf, optionOf, threeOf, dtgOf, momentOf, addressOf, byMoment, byAddress};
+use cells::load_word;
 use header::Address;
 use header::Dtg;
 use header::Stamp;
+use leaves::numbers::load_optional;
 use optional::OptionalNumber;
-use text::Text;
+use record_octets::in_address;
+use record_octets::in_optional_text;
+use record_octets::in_text;
 
 // What names a message: its originator's address, its DTG and extension.
 #[repr(C)]
@@ -49,14 +56,11 @@ pub fn compare_numbers(a: u32, b: u32) -> Comparison
     Comparison::Same
 }
 
-// Character by character. A length over 64 stands for all 64 cells.
-pub fn compare_texts(a: Text, b: Text) -> Comparison
-    ensures { λ r. ⌜ comparisonOf r ≡ list byNumber (charsOf a) (charsOf b) ⌝ }
+// Character by character: of each text the cells for its characters, and its count. A count over 64 stands for all 64 cells.
+fn compare_characters(x: &[u8], n: usize, y: &[u8], m: usize) -> Comparison
+    requires { ⌜ (length (now x) ≡ 64) × (length (now y) ≡ 64) ⌝ }
+    ensures { λ r. ⌜ comparisonOf r ≡ list byNumber (take n (now (x .entry))) (take m (now (y .entry))) ⌝ }
 {
-    let x = a.chars;
-    let y = b.chars;
-    let n = a.len as usize;
-    let m = b.len as usize;
     let mut i: usize = 0;
     while i < 64 {
         if n <= i {
@@ -81,12 +85,38 @@ pub fn compare_texts(a: Text, b: Text) -> Comparison
     Comparison::Same
 }
 
-// URNs before names.
-pub fn compare_addresses(a: Address, b: Address) -> Comparison
-    ensures { λ r. ⌜ comparisonOf r ≡ byAddress (addressOf a) (addressOf b) ⌝ }
+pub fn compare_texts(a: &[u8], b: &[u8]) -> Comparison
+    requires { ⌜ (length (now a) ≡ sizeOfText) × (length (now b) ≡ sizeOfText) ⌝ }
+    ensures { λ r. ⌜ comparisonOf r ≡ list byNumber (charsOf (textIn (now (a .entry)))) (charsOf (textIn (now (b .entry)))) ⌝ }
 {
-    let x = a.urn;
-    let y = b.urn;
+    let n = load_word(&a[in_text::LEN..in_text::END]) as usize;
+    let m = load_word(&b[in_text::LEN..in_text::END]) as usize;
+    compare_characters(
+        &a[in_text::CHARS..in_text::LEN],
+        n,
+        &b[in_text::CHARS..in_text::LEN],
+        m,
+    )
+}
+
+// The unit names of two addresses.
+fn compare_names(a: &[u8], b: &[u8]) -> Comparison
+    requires { ⌜ (length (now a) ≡ sizeOfOptionalText) × (length (now b) ≡ sizeOfOptionalText) ⌝ }
+    ensures { λ r. ⌜ comparisonOf r ≡ list byNumber (charsOf (optionalTextIn (now (a .entry)) .text)) (charsOf (optionalTextIn (now (b .entry)) .text)) ⌝ }
+{
+    compare_texts(
+        &a[in_optional_text::TEXT..in_optional_text::END],
+        &b[in_optional_text::TEXT..in_optional_text::END],
+    )
+}
+
+// URNs before names.
+pub fn compare_addresses(a: &[u8], b: &[u8]) -> Comparison
+    requires { ⌜ (length (now a) ≡ sizeOfAddress) × (length (now b) ≡ sizeOfAddress) ⌝ }
+    ensures { λ r. ⌜ comparisonOf r ≡ byAddress (addressOf (addressIn (now (a .entry)))) (addressOf (addressIn (now (b .entry)))) ⌝ }
+{
+    let x = load_optional(&a[in_address::URN..in_address::NAME]);
+    let y = load_optional(&b[in_address::URN..in_address::NAME]);
     let first = x.present;
     let second = y.present;
     if first {
@@ -98,9 +128,10 @@ pub fn compare_addresses(a: Address, b: Address) -> Comparison
     if second {
         return Comparison::Greater;
     }
-    let n = a.name;
-    let m = b.name;
-    compare_texts(n.text, m.text)
+    compare_names(
+        &a[in_address::NAME..in_address::END],
+        &b[in_address::NAME..in_address::END],
+    )
 }
 
 fn compare_threes(a: Three, b: Three) -> Comparison
@@ -151,12 +182,4 @@ pub fn compare_stamps(a: Stamp, b: Stamp) -> Comparison
     let dtgs = compare_dtgs(a.dtg, b.dtg);
     let extensions = compare_optionals(a.extension, b.extension);
     then_by(dtgs, extensions)
-}
-
-pub fn compare_keys(a: Key, b: Key) -> Comparison
-    ensures { λ r. ⌜ comparisonOf r ≡ byKey (keyOf a) (keyOf b) ⌝ }
-{
-    let addresses = compare_addresses(a.address, b.address);
-    let stamps = compare_stamps(a.stamp, b.stamp);
-    then_by(addresses, stamps)
 }

@@ -1,1 +1,2 @@
-mod Dids
+mod Named
+mod NoRows

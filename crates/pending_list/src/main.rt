@@ -6,13 +6,7 @@ use hexadecimal::LineRead;
 use libc::STDIN_FILENO;
 use libc::STDOUT_FILENO;
 use listing::Listed;
-use table::Table;
-
-// The table, and how many characters of a line were read that has not ended.
-pub struct Run {
-    pub table: Table,
-    pub held: usize,
-}
+use table_octets::TABLE;
 
 // How far a chunk was read: the characters held of the line, the place in the chunk, and whether the
 // line ended there.
@@ -33,25 +27,24 @@ fn hold(line: &mut [u8; 16385], held: usize, c: u8) -> usize {
 }
 
 // The end of a line.
-fn end_line(t: Table, line: &[u8; 16385], held: usize) -> Table {
+fn end_line(t: &mut [u8; TABLE], line: &[u8; 16385], held: usize) {
     if 16385 < held {
-        return t;
+        return;
     }
     let mut out = [0u8; 8192];
     let whole = &line[..];
     let r = hexadecimal::line_octets(&whole[..held], &mut out);
     let LineRead::Octets(size) = r else {
-        return t;
+        return;
     };
     let n = size.0;
     if 8192 < n {
-        return t;
+        return;
     }
-    playing::play(t, &out[..n])
+    playing::play(t, &out[..n]);
 }
 
-// The characters of a chunk from a place on, to the end of the line or of the chunk. The table stays
-// out of this loop: it is large.
+// The characters of a chunk from a place on, to the end of the line or of the chunk.
 fn scan(line: &mut [u8; 16385], held: usize, chunk: &[u8], from: usize) -> Stop
     requires { ⌜ from < length (now chunk) ⌝ }
     ensures { λ r. ⌜ (from < r .at) × (r .at ≤ length (now (chunk .entry))) ⌝ }
@@ -78,41 +71,34 @@ fn scan(line: &mut [u8; 16385], held: usize, chunk: &[u8], from: usize) -> Stop
     }
 }
 
-// What a scan makes of the table and the line.
-fn settle(t: Table, line: &[u8; 16385], s: Stop) -> Run {
+// What a scan makes of the table and the line: how many characters are held of the next one.
+fn settle(t: &mut [u8; TABLE], line: &[u8; 16385], s: Stop) -> usize {
     let n = s.held;
     if s.ended {
-        let next = end_line(t, line, n);
-        return Run {
-            table: next,
-            held: 0,
-        };
+        end_line(t, line, n);
+        return 0;
     }
-    Run { table: t, held: n }
+    n
 }
 
 // A chunk of the input.
-fn take(r: Run, line: &mut [u8; 16385], chunk: &[u8]) -> Run {
-    let mut run = r;
+fn take(t: &mut [u8; TABLE], line: &mut [u8; 16385], held: usize, chunk: &[u8]) -> usize {
+    let mut n = held;
     let mut at: usize = 0;
     while at < chunk.len() {
-        let n = run.held;
         let s = scan(line, n, chunk, at);
         at = s.at;
-        let t = run.table;
-        let next = settle(t, line, s);
-        run = next;
+        n = settle(t, line, s);
     }
-    run
+    n
 }
 
 // All of the input; a last line may lack its line feed. A proved loop has to end, and nothing says that
 // the input does, so the turns are counted down from a number that no run uses up.
-fn take_all() -> Table {
+fn take_all(t: &mut [u8; TABLE]) {
     let mut line = [0u8; 16385];
     let mut chunk = [0u8; 4096];
-    let t = table::zero::empty();
-    let mut run = Run { table: t, held: 0 };
+    let mut held: usize = 0;
     let mut turns = u64::MAX;
     while turns > 0 {
         let got = libc::read(STDIN_FILENO, &mut chunk);
@@ -120,17 +106,14 @@ fn take_all() -> Table {
         if n == 0 {
             break;
         }
-        let next = take(run, &mut line, &chunk[..n]);
-        run = next;
+        held = take(t, &mut line, held, &chunk[..n]);
         turns -= 1;
     }
-    let last = run.table;
-    let n = run.held;
-    end_line(last, &line, n)
+    end_line(t, &line, held);
 }
 
 // A row of the listing. A row has at most 4,096 octets.
-fn print_row(t: Table, number: u32) {
+fn print_row(t: &[u8; TABLE], number: u32) {
     let mut out = [0u8; 4096];
     let r = listing::list_row(t, number, &mut out);
     let Listed::Done(size) = r else {
@@ -143,7 +126,7 @@ fn print_row(t: Table, number: u32) {
 }
 
 // Row 0 and every row that a table can have; behind the last row nothing is listed.
-fn print_rows(t: Table) {
+fn print_rows(t: &[u8; TABLE]) {
     let mut i: u32 = 0;
     while i < 33 {
         print_row(t, i);
@@ -152,6 +135,8 @@ fn print_rows(t: Table) {
 }
 
 fn main() {
-    let t = take_all();
-    print_rows(t);
+    let mut t = [0u8; TABLE];
+    pending::empty(&mut t);
+    take_all(&mut t);
+    print_rows(&t);
 }

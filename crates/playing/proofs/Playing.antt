@@ -14,7 +14,9 @@ use Rattle.table.specs.Rows.{see}
 use Rattle.table.specs.WellFormed.{wellFormed}
 use Rattle.table.specs.declared.Table.{Table}
 use Rattle.arguments.specs.Arguments.{Arguments, posting, receiving, blockAt, callOf}
-use Rattle.pending.specs.Calls.{Did, rowsAfter}
+use Rattle.table_octets.specs.Table.{tableIn}
+use Rattle.transitions.specs.Transition.{Transition}
+use Rattle.pending.specs.Calls.{rowsAfter}
 use Rattle.reader.specs.Reading.{Reading, accepted, rejected, reading, userData}
 use Rattle.reader.specs.Told.{Told, told, toTell, Holds, outcomeDone}
 use Rattle.record_octets.specs.Record.{headerIn}
@@ -47,17 +49,17 @@ at-block h (suc i) b j e =
 
 -- ---- one call
 
-pub plays-receipt : (h : Header) (n count k : ℕ) (b : Bool) (t t′ : Table) → b ≡ blockAt h n .response .present → b ≡ true → Did (receiving h n count) t k t′ → Plays (turn h n count) t t′
+pub plays-receipt : (h : Header) (n count k : ℕ) (b : Bool) (t t′ : List ℕ) → b ≡ blockAt h n .response .present → b ≡ true → Transition (callOf (receiving h n count)) t k t′ → Plays (turn h n count) t t′
 unfolding turn
 plays-receipt h n count k b t t′ e y d = let z : blockAt h n .response .present ≡ true = sym e ∙ y in rw z (record { rows = d .rows; well = d .well })
 
-pub plays-posting : (h : Header) (n count k : ℕ) (b : Bool) (t t′ : Table) → b ≡ blockAt h n .response .present → b ≡ false → Did (posting h n count) t k t′ → Plays (turn h n count) t t′
+pub plays-posting : (h : Header) (n count k : ℕ) (b : Bool) (t t′ : List ℕ) → b ≡ blockAt h n .response .present → b ≡ false → Transition (callOf (posting h n count)) t k t′ → Plays (turn h n count) t t′
 unfolding turn
 plays-posting h n count k b t t′ e y d = let z : blockAt h n .response .present ≡ false = sym e ∙ y in rw z (record { rows = d .rows; well = d .well })
 
 -- ---- call after call
 
--- the table behind the calls of the first i blocks
+-- t′ holds the table behind the calls of the first i blocks
 pub record Behind (h : Header) (count : ℕ) (t : Table) (i : ℕ) (t′ : Table) : Type 0 where
   pub within : i ≤ h .blocks .count
   pub rows : see t′ ≡ rowsOf h count t i
@@ -75,12 +77,12 @@ step : (w : Bool) (a : Arguments) (x y : Rows) → pick w (onTable (callOf a) (p
 step true a x y = refl
 step false a x y = refl
 
-pub behind-more : (h : Header) (count : ℕ) (t : Table) (i : ℕ) (t′ t″ : Table) → Behind h count t i t′ → i < h .blocks .count → Plays (turn h (i + 1) count) t′ t″ → Behind h count t (i + 1) t″
+pub behind-more : (h : Header) (count : ℕ) (t : Table) (i : ℕ) (u v : List ℕ) → Behind h count t i (tableIn u) → i < h .blocks .count → Plays (turn h (i + 1) count) u v → Behind h count t (i + 1) (tableIn v)
 unfolding after
-behind-more h count t i t′ t″ b k p =
+behind-more h count t i u v b k p =
     let n : i + 1 ≡ suc i = omega arith in
-    let e : see t″ ≡ rowsAfter (turn h (suc i) count) t′ = p .rows ∙ ap (λ (m : ℕ). rowsAfter (turn h m count) t′) n in
-    let r : see t″ ≡ rowsOf h count t (suc i) =
+    let e : see (tableIn v) ≡ rowsAfter (turn h (suc i) count) (tableIn u) = p .rows ∙ ap (λ (m : ℕ). rowsAfter (turn h m count) (tableIn u)) n in
+    let r : see (tableIn v) ≡ rowsOf h count t (suc i) =
     e ∙ ap₂ (λ (w : Bool) (x : Rows). pick w (onTable (callOf (turn h (suc i) count)) x .1) x) (b .well) (b .rows) ∙ step (wellFormed t) (turn h (suc i) count) (after h count (see t) i) (see t) in
     record { within = omega arith; rows = rw n r; well = p .well ∙ b .well }
 

@@ -9,6 +9,7 @@ use Rattle.order.specs.Calls.{Rows, onTable}
 use Rattle.table.specs.Rows.{see}
 use Rattle.table.specs.WellFormed.{wellFormed}
 use Rattle.table.specs.declared.Table.{Table}
+use Rattle.table_octets.specs.Table.{tableIn}
 use Rattle.arguments.specs.Arguments.{Arguments, posting, receiving, blockAt, callOf}
 use Rattle.pending.specs.Calls.{rowsAfter}
 use Rattle.reader.specs.Reading.{Reading, accepted, rejected, reading, userData}
@@ -34,7 +35,7 @@ playedBy s t (rejected f p) = see t
 abbrev pub played : Table → List ℕ → Rows
 played t s = playedBy s t (reading s)
 
--- one call given the table t hands back t′: the rows are those behind the call, and a well-formed table stays well formed
-pub record Plays (a : Arguments) (t t′ : Table) : Type 0 where
-  pub rows : see t′ ≡ rowsAfter a t
-  pub well : wellFormed t′ ≡ wellFormed t
+-- one call given the table's octets t leaves t′: the rows are those behind the call, and a well-formed table stays well formed
+pub record Plays (a : Arguments) (t t′ : List ℕ) : Type 0 where
+  pub rows : see (tableIn t′) ≡ rowsAfter a (tableIn t)
+  pub well : wellFormed (tableIn t′) ≡ wellFormed (tableIn t)

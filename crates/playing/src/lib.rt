@@ -4,6 +4,7 @@ ghost use lib.ListN.{length};
 ghost use Rattle.record_octets.specs.Record.{sizeOfHeader, headerIn};
 ghost use Rattle.table.specs.Rows.{see};
 ghost use Rattle.table.specs.WellFormed.{wellFormed};
+ghost use Rattle.table_octets.specs.Table.{tableIn};
 ghost use Rattle.arguments.specs.Arguments.{blockAt};
 ghost use Rattle.playing.specs.Plays.{Plays, turn, rowsOf, played};
 use bits::OctetSize;
@@ -16,7 +17,7 @@ use reader::Outcome;
 use record_octets::RECORD;
 use record_octets::in_blocks;
 use record_octets::in_header;
-use table::Table;
+use table_octets::TABLE;
 
 // Whether the block with this number, counted from 1, has G8.
 fn is_receipt(h: &[u8], number: u32) -> bool
@@ -35,43 +36,40 @@ fn is_receipt(h: &[u8], number: u32) -> bool
     has_response(entry(list, i, in_blocks::ENTRY))
 }
 
-// One block's call. A call that is refused hands back the table as it came.
-fn play_block(t: Table, h: &[u8; RECORD], number: u32, count: OctetSize) -> Table
-    ensures { λ r. ⌜ Plays (turn (headerIn (now (h .entry))) number (count .0)) t r ⌝ }
+// One block's call. A call that is refused leaves the table as it was.
+fn play_block(t: &mut [u8; TABLE], h: &[u8; RECORD], number: u32, count: OctetSize)
+    ensures { λ r. ⌜ Plays (turn (headerIn (now (h .entry))) number (count .0)) (now (t .entry)) (now (t .exit)) ⌝ }
 {
     if is_receipt(h, number) {
-        let after = receipt(t, h, number, count);
-        return after.table;
+        receipt(t, h, number, count);
+        return;
     }
-    let after = post(t, h, number, count);
-    after.table
+    post(t, h, number, count);
 }
 
 // The calls of a record's blocks, from the first.
-fn play_blocks(t: Table, h: &[u8; RECORD], count: OctetSize) -> Table
-    ensures { λ r. ⌜ (see r ≡ rowsOf (headerIn (now (h .entry))) (count .0) t (headerIn (now (h .entry)) .blocks .count)) × (wellFormed r ≡ wellFormed t) ⌝ }
+fn play_blocks(t: &mut [u8; TABLE], h: &[u8; RECORD], count: OctetSize)
+    ensures { λ r. ⌜ (see (tableIn (now (t .exit))) ≡ rowsOf (headerIn (now (h .entry))) (count .0) (tableIn (now (t .entry))) (headerIn (now (h .entry)) .blocks .count)) × (wellFormed (tableIn (now (t .exit))) ≡ wellFormed (tableIn (now (t .entry)))) ⌝ }
 {
     let blocks = block_count(h);
-    let mut table = t;
     let mut i: u32 = 0;
     while i < blocks {
-        table = play_block(table, h, i + 1, count);
+        play_block(t, h, i + 1, count);
         i += 1;
     }
-    table
 }
 
 // A datagram: where it is accepted, each block is a call, a receipt where it has G8, otherwise a posting.
-pub fn play(t: Table, datagram: &[u8]) -> Table
-    ensures { λ r. ⌜ (see r ≡ played t (now (datagram .entry))) × (wellFormed r ≡ wellFormed t) ⌝ }
+pub fn play(t: &mut [u8; TABLE], datagram: &[u8])
+    ensures { λ r. ⌜ (see (tableIn (now (t .exit))) ≡ played (tableIn (now (t .entry))) (now (datagram .entry))) × (wellFormed (tableIn (now (t .exit))) ≡ wellFormed (tableIn (now (t .entry)))) ⌝ }
 {
     let mut octets = [0u8; RECORD];
     let r = reader::read(datagram, &mut octets);
     let outcome = r.outcome;
     let Outcome::Done = outcome else {
-        return t;
+        return;
     };
     let data = reader::user_data(datagram);
     let count = OctetSize(data.len());
-    play_blocks(t, &octets, count)
+    play_blocks(t, &octets, count);
 }

@@ -82,11 +82,11 @@ pub address-bounded : (a : Address) → address .check a ≡ 0 → length (addre
 address-bounded a h = go (a .urn .present) refl
   where
     go : (b : Bool) → a .urn .present ≡ b → length (addressText (addressOf a)) ≤ 194
-    go true e = let d = decimal-bounded (a .urn .value) in rw (urn-text a e) (omega arith)
+    go true e = let d = decimal-bounded (a .urn .value) in rw (urn-text a (a .urn) refl e) (omega arith)
     go false e =
         let t = text-bounded (a .name .text) (named a h e) in
         let c = characters-bounded (charsOf (a .name .text)) in
-        rw (name-length a e) (omega arith)
+        rw (name-length a (a .urn) refl e) (omega arith)
 
 code-bounded : (n : Option ℕ) → length (codeText n) ≤ 10
 unfolding codeText
@@ -131,7 +131,7 @@ row-bounded r h =
     let y = picked (r .asked .reply) 1 1 (omega arith) in
     let l = lines-bounded (r .asked) (usedRecipients r) (f .recipients) in
     let n = length-take (r .count) (r .recipients) in
-    rw (row-length r, key-line-length (r .asked) (r .key), key-text-length (r .key), letters-length (r .asked)) (omega (arith, f .most))
+    rw (row-length r (r .asked) (r .count) refl refl, key-line-length (r .asked) (r .key), key-text-length (r .key), letters-length (r .asked)) (omega (arith, f .most))
 
 rows-bounded : (l : List Row) (i : ℕ) → all rowFine l ≡ true → length (rowAt (map rowOf l) i) ≤ 4096
 unfolding rowAt all

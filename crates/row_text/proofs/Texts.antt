@@ -1,6 +1,6 @@
 -- The texts of the listing by their cases, and their lengths by their parts. Assumes nothing.
 use Prim.Native.Nat.{ℕ, _+_, _/_, _%_, _≤_, _<_, min}
-use mathlib.Core.Path.{_≡_, refl}
+use mathlib.Core.Path.{_≡_, refl, sym, ap, _∙_}
 use mathlib.Core.Bool.{Bool, true, false, _||_}
 use mathlib.Core.List.{List, [], _∷_, _++_, map, append-assoc}
 use mathlib.Core.Option.{Option}
@@ -14,13 +14,14 @@ use Rattle.text.specs.Texts.{charsOf}
 use Rattle.text.specs.declared.Text.{Text}
 use Rattle.header.specs.declared.Address.{Address}
 use Rattle.header.specs.declared.Requests.{Requests}
+use Rattle.header.specs.declared.Stamp.{Stamp}
 use Rattle.order.specs.Values.{addressOf, optionOf, keyOf}
 use Rattle.order.specs.declared.Key.{Key}
 use Rattle.order.specs.Requests.{askOf}
-use Rattle.table.specs.Rows.{codeOf, markOf, recipientOf, usedRecipients, rowOf}
+use Rattle.table.specs.Rows.{codeOf, markOf, recipientOf, rowOf}
 use Rattle.table.specs.declared.Recipient.{Recipient}
 use Rattle.table.specs.declared.Row.{Row}
-use Rattle.row_text.specs.Text.{digit, decimal, hexDigit, escaped, characters, addressText, dtgText, extensionText, askedText, asked, keyLine, codeText, requestText, recipientLine, recipientLines, rowText, countLine}
+use Rattle.row_text.specs.Text.{digit, decimal, twoDigits, hexDigit, escaped, characters, addressText, dtgText, extensionText, askedText, asked, keyLine, codeText, requestText, recipientLine, recipientLines, rowText, countLine}
 use Rattle.row_text.specs.Parts.{keyText, requestsText, lineOf}
 use Rattle.row_text.proofs.Lines.{lines, character-lines, recipient-lines, used-cells}
 
@@ -54,16 +55,16 @@ letter-digit n h = rw (lt-leb n 9 h)
 pub text-lines : (t : Text) (n : ℕ) → length (t .chars) ≡ 64 → n ≡ min (t .len) 64 → characters (charsOf t) ≡ lines escaped (take n (t .chars))
 text-lines t n e u = rw (used-cells (t .chars) (t .len) n 64 e u) (character-lines (take n (t .chars)))
 
-module _ (a : Address) where
-  pub urn-text : a .urn .present ≡ true → addressText (addressOf a) ≡ decimal (a .urn .value)
+module _ (a : Address) (u : OptionalNumber) (same : u ≡ a .urn) where
+  pub urn-text : u .present ≡ true → addressText (addressOf a) ≡ decimal (u .value)
   unfolding addressText addressOf
-  urn-text e = rw e
+  urn-text e = let t : a .urn .present ≡ true = ap (λ (n : OptionalNumber). n .present) (sym same) ∙ e in rw (t, same)
 
-  pub name-text : a .urn .present ≡ false → addressText (addressOf a) ≡ 34 ∷ characters (charsOf (a .name .text)) ++ 34 ∷ []
+  pub name-text : u .present ≡ false → addressText (addressOf a) ≡ 34 ∷ characters (charsOf (a .name .text)) ++ 34 ∷ []
   unfolding addressText addressOf
-  name-text e = rw e
+  name-text e = let t : a .urn .present ≡ false = ap (λ (n : OptionalNumber). n .present) (sym same) ∙ e in rw t
 
-  pub name-length : a .urn .present ≡ false → length (addressText (addressOf a)) ≡ length (characters (charsOf (a .name .text))) + 2
+  pub name-length : u .present ≡ false → length (addressText (addressOf a)) ≡ length (characters (charsOf (a .name .text))) + 2
   name-length e = rw (name-text e, length-append) (omega arith)
 
 pub some-extension : (x : OptionalNumber) → x .present ≡ true → extensionText (optionOf x) ≡ decimal (x .value)
@@ -116,6 +117,13 @@ pub key-text-length : (k : Key) → length (keyText k) ≡ length (addressText (
 unfolding keyText dtgText
 key-text-length k = rw (length-append, length-append) (omega arith)
 
+-- of a key whose stamp was loaded
+pub dtg-text : (k : Key) (s : Stamp) → s ≡ k .stamp
+    → dtgText (keyOf k) ≡ (twoDigits (s .dtg .date .year) ++ 45 ∷ twoDigits (s .dtg .date .month) ++ 45 ∷ twoDigits (s .dtg .date .day))
+    ++ 32 ∷ (twoDigits (s .dtg .time .hour) ++ 58 ∷ twoDigits (s .dtg .time .minute) ++ 58 ∷ twoDigits (s .dtg .time .second))
+unfolding dtgText keyOf
+dtg-text k s e = rw e
+
 pub letter-length : (b : Bool) (letter : ℕ) → length (pick b (letter ∷ []) []) ≡ pick b 1 0
 letter-length true letter = refl
 letter-length false letter = refl
@@ -140,7 +148,11 @@ pub line-lines : (a : Requests) (l : List Recipient) (count n : ℕ) → length 
 unfolding lineOf
 line-lines a l count n e u = rw (used-cells l count n 16 e u) (recipient-lines (askOf a) recipientOf (take n l))
 
-module _ (r : Row) where
-  pub row-length : length (rowText (rowOf r)) ≡ length (keyLine (keyOf (r .key)) (askOf (r .asked))) + length (recipientLines (askOf (r .asked)) (map recipientOf (usedRecipients r)))
+-- of a row whose requests and count were loaded
+module _ (r : Row) (a : Requests) (n : ℕ) (asks : a ≡ r .asked) (counts : n ≡ r .count) where
+  pub row-parts : rowText (rowOf r) ≡ keyLine (keyOf (r .key)) (askOf a) ++ recipientLines (askOf a) (map recipientOf (take n (r .recipients)))
   unfolding rowText
-  row-length = rw length-append
+  row-parts = rw (asks, counts)
+
+  pub row-length : length (rowText (rowOf r)) ≡ length (keyLine (keyOf (r .key)) (askOf a)) + length (recipientLines (askOf a) (map recipientOf (take n (r .recipients))))
+  row-length = rw (row-parts, length-append)

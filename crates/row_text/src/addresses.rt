@@ -7,14 +7,18 @@ ghost use lib.ListN.{length};
 ghost use lib.Dec.{leb, eqb};
 ghost use Rattle.text.specs.Texts.{charsOf};
 ghost use Rattle.order.specs.Values.{addressOf};
+ghost use Rattle.record_octets.specs.Record.{sizeOfText, textIn, sizeOfAddress, addressIn};
 ghost use Rattle.row_text.specs.Text.{hexDigit, escaped, characters, addressText};
 ghost use Rattle.row_text.specs.Puts.{Puts};
 use crate::digits::decimal_length;
 use crate::digits::put_decimal;
 use crate::digits::put_octet;
 use bits::OctetSize;
-use header::Address;
-use text::Text;
+use cells::load_word;
+use leaves::numbers::load_optional;
+use record_octets::in_address;
+use record_octets::in_optional_text;
+use record_octets::in_text;
 
 // How many cells of an array are used: a count beyond them stands for all.
 pub fn used(count: u32, cells: usize) -> usize
@@ -68,11 +72,14 @@ fn put_escaped(out: &mut [u8], at: OctetSize, c: u8) -> OctetSize
     put_octet(out, at, c)
 }
 
-fn characters_length(t: Text) -> OctetSize
-    ensures { λ r. ⌜ (r .0 ≡ length (characters (charsOf t))) × (r .0 ≤ 192) ⌝ }
+// The characters of a text.
+fn characters_length(x: &[u8]) -> OctetSize
+    requires { ⌜ length (now x) ≡ sizeOfText ⌝ }
+    ensures { λ r. ⌜ (r .0 ≡ length (characters (charsOf (textIn (now (x .entry)))))) × (r .0 ≤ 192) ⌝ }
 {
-    let chars = t.chars;
-    let n = used(t.len, 64);
+    let chars = &x[in_text::CHARS..in_text::LEN];
+    let count = load_word(&x[in_text::LEN..in_text::END]);
+    let n = used(count, 64);
     let mut size = OctetSize(0);
     let mut i: usize = 0;
     while i < n {
@@ -83,12 +90,13 @@ fn characters_length(t: Text) -> OctetSize
     size
 }
 
-fn put_characters(out: &mut [u8], at: OctetSize, t: Text) -> OctetSize
-    requires { ⌜ at .0 + length (characters (charsOf t)) ≤ length (now out) ⌝ }
-    ensures { λ r. ⌜ Puts (characters (charsOf t)) (now (out .entry)) (now (out .exit)) (at .0) (r .0) ⌝ }
+fn put_characters(out: &mut [u8], at: OctetSize, x: &[u8]) -> OctetSize
+    requires { ⌜ (at .0 + length (characters (charsOf (textIn (now x)))) ≤ length (now out)) × (length (now x) ≡ sizeOfText) ⌝ }
+    ensures { λ r. ⌜ Puts (characters (charsOf (textIn (now (x .entry))))) (now (out .entry)) (now (out .exit)) (at .0) (r .0) ⌝ }
 {
-    let chars = t.chars;
-    let n = used(t.len, 64);
+    let chars = &x[in_text::CHARS..in_text::LEN];
+    let count = load_word(&x[in_text::LEN..in_text::END]);
+    let n = used(count, 64);
     let mut place = at;
     let mut i: usize = 0;
     while i < n {
@@ -98,35 +106,40 @@ fn put_characters(out: &mut [u8], at: OctetSize, t: Text) -> OctetSize
     place
 }
 
-fn put_name(out: &mut [u8], at: OctetSize, t: Text) -> OctetSize
-    requires { ⌜ at .0 + length (characters (charsOf t)) + 2 ≤ length (now out) ⌝ }
-    ensures { λ r. ⌜ Puts (34 ∷ characters (charsOf t) ++ 34 ∷ []) (now (out .entry)) (now (out .exit)) (at .0) (r .0) ⌝ }
+fn put_name(out: &mut [u8], at: OctetSize, x: &[u8]) -> OctetSize
+    requires { ⌜ (at .0 + length (characters (charsOf (textIn (now x)))) + 2 ≤ length (now out)) × (length (now x) ≡ sizeOfText) ⌝ }
+    ensures { λ r. ⌜ Puts (34 ∷ characters (charsOf (textIn (now (x .entry)))) ++ 34 ∷ []) (now (out .entry)) (now (out .exit)) (at .0) (r .0) ⌝ }
 {
     let at = put_octet(out, at, 34);
-    let at = put_characters(out, at, t);
+    let at = put_characters(out, at, x);
     put_octet(out, at, 34)
 }
 
-pub fn address_length(a: Address) -> OctetSize
-    ensures { λ r. ⌜ (r .0 ≡ length (addressText (addressOf a))) × (r .0 ≤ 194) ⌝ }
+pub fn address_length(x: &[u8]) -> OctetSize
+    requires { ⌜ length (now x) ≡ sizeOfAddress ⌝ }
+    ensures { λ r. ⌜ (r .0 ≡ length (addressText (addressOf (addressIn (now (x .entry)))))) × (r .0 ≤ 194) ⌝ }
 {
-    let urn = a.urn;
+    let urn = load_optional(&x[in_address::URN..in_address::NAME]);
     if urn.present {
         return decimal_length(urn.value);
     }
-    let name = a.name;
-    let size = characters_length(name.text);
+    let name = &x[in_address::NAME..in_address::END];
+    let size = characters_length(&name[in_optional_text::TEXT..in_optional_text::END]);
     OctetSize(size.0 + 2)
 }
 
-pub fn put_address(out: &mut [u8], at: OctetSize, a: Address) -> OctetSize
-    requires { ⌜ at .0 + length (addressText (addressOf a)) ≤ length (now out) ⌝ }
-    ensures { λ r. ⌜ Puts (addressText (addressOf a)) (now (out .entry)) (now (out .exit)) (at .0) (r .0) ⌝ }
+pub fn put_address(out: &mut [u8], at: OctetSize, x: &[u8]) -> OctetSize
+    requires { ⌜ (at .0 + length (addressText (addressOf (addressIn (now x)))) ≤ length (now out)) × (length (now x) ≡ sizeOfAddress) ⌝ }
+    ensures { λ r. ⌜ Puts (addressText (addressOf (addressIn (now (x .entry))))) (now (out .entry)) (now (out .exit)) (at .0) (r .0) ⌝ }
 {
-    let urn = a.urn;
+    let urn = load_optional(&x[in_address::URN..in_address::NAME]);
     if urn.present {
         return put_decimal(out, at, urn.value);
     }
-    let name = a.name;
-    put_name(out, at, name.text)
+    let name = &x[in_address::NAME..in_address::END];
+    put_name(
+        out,
+        at,
+        &name[in_optional_text::TEXT..in_optional_text::END],
+    )
 }

@@ -6,6 +6,8 @@ ghost use lib.ListN.{length, take};
 ghost use Rattle.codec.specs.Answer.{pick};
 ghost use Rattle.order.specs.Requests.{askOf};
 ghost use Rattle.table.specs.Rows.{codeOf, recipientOf};
+ghost use Rattle.cells.specs.Cells.{wordIn, many};
+ghost use Rattle.table_octets.specs.Table.{sizeOfRecipient, recipientIn, sizeOfRowRecipients};
 ghost use Rattle.row_text.specs.Text.{codeText, requestText, recipientLines};
 ghost use Rattle.row_text.specs.Parts.{requestsText, lineOf};
 ghost use Rattle.row_text.specs.Puts.{Puts};
@@ -17,8 +19,11 @@ use crate::digits::put_decimal;
 use crate::digits::put_octet;
 use crate::digits::put_octets;
 use bits::OctetSize;
+use cells::entry;
+use cells::load_word;
 use header::Requests;
-use table::Recipient;
+use table_octets::in_recipient;
+use table_octets::in_row;
 
 fn code_length(code: u32) -> OctetSize
     ensures { λ r. ⌜ (r .0 ≡ length (codeText (codeOf code))) × (r .0 ≤ 10) ⌝ }
@@ -39,21 +44,24 @@ fn put_code(out: &mut [u8], at: OctetSize, code: u32) -> OctetSize
     put_decimal(out, at, code)
 }
 
-fn request_length(asked: bool, code: u32) -> OctetSize
-    ensures { λ r. ⌜ (r .0 ≡ pick asked (length (codeText (codeOf code)) + 3) 0) × (r .0 ≤ 13) ⌝ }
+fn request_length(asked: bool, x: &[u8]) -> OctetSize
+    requires { ⌜ length (now x) ≡ 4 ⌝ }
+    ensures { λ r. ⌜ (r .0 ≡ pick asked (length (codeText (codeOf (wordIn (now (x .entry))))) + 3) 0) × (r .0 ≤ 13) ⌝ }
 {
     if asked {
+        let code = load_word(x);
         let size = code_length(code);
         return OctetSize(size.0 + 3);
     }
     OctetSize(0)
 }
 
-fn put_request(out: &mut [u8], at: OctetSize, asked: bool, letter: u8, code: u32) -> OctetSize
-    requires { ⌜ at .0 + length (requestText asked letter (codeOf code)) ≤ length (now out) ⌝ }
-    ensures { λ r. ⌜ Puts (requestText asked letter (codeOf code)) (now (out .entry)) (now (out .exit)) (at .0) (r .0) ⌝ }
+fn put_request(out: &mut [u8], at: OctetSize, asked: bool, letter: u8, x: &[u8]) -> OctetSize
+    requires { ⌜ (at .0 + length (requestText asked letter (codeOf (wordIn (now x)))) ≤ length (now out)) × (length (now x) ≡ 4) ⌝ }
+    ensures { λ r. ⌜ Puts (requestText asked letter (codeOf (wordIn (now (x .entry))))) (now (out .entry)) (now (out .exit)) (at .0) (r .0) ⌝ }
 {
     if asked {
+        let code = load_word(x);
         let at = put_octet(out, at, b' ');
         let at = put_octet(out, at, letter);
         let at = put_octet(out, at, b'=');
@@ -62,50 +70,62 @@ fn put_request(out: &mut [u8], at: OctetSize, asked: bool, letter: u8, code: u32
     at
 }
 
-fn requests_length(asked: Requests, r: Recipient) -> OctetSize
-    ensures { λ s. ⌜ (s .0 ≡ length (requestsText asked r)) × (s .0 ≤ 39) ⌝ }
+fn requests_length(asked: Requests, x: &[u8]) -> OctetSize
+    requires { ⌜ length (now x) ≡ sizeOfRecipient ⌝ }
+    ensures { λ s. ⌜ (s .0 ≡ length (requestsText asked (recipientIn (now (x .entry))))) × (s .0 ≤ 39) ⌝ }
 {
-    let machine = request_length(asked.machine, r.machine);
-    let acknowledge = request_length(asked.acknowledge, r.acknowledge);
-    let reply = request_length(asked.reply, r.reply);
+    let machine = request_length(
+        asked.machine,
+        &x[in_recipient::MACHINE..in_recipient::ACKNOWLEDGE],
+    );
+    let acknowledge = request_length(
+        asked.acknowledge,
+        &x[in_recipient::ACKNOWLEDGE..in_recipient::REPLY],
+    );
+    let reply = request_length(asked.reply, &x[in_recipient::REPLY..in_recipient::END]);
     OctetSize(machine.0 + acknowledge.0 + reply.0)
 }
 
-fn put_requests(out: &mut [u8], at: OctetSize, asked: Requests, r: Recipient) -> OctetSize
-    requires { ⌜ at .0 + length (requestsText asked r) ≤ length (now out) ⌝ }
-    ensures { λ s. ⌜ Puts (requestsText asked r) (now (out .entry)) (now (out .exit)) (at .0) (s .0) ⌝ }
+fn put_requests(out: &mut [u8], at: OctetSize, asked: Requests, x: &[u8]) -> OctetSize
+    requires { ⌜ (at .0 + length (requestsText asked (recipientIn (now x))) ≤ length (now out)) × (length (now x) ≡ sizeOfRecipient) ⌝ }
+    ensures { λ s. ⌜ Puts (requestsText asked (recipientIn (now (x .entry)))) (now (out .entry)) (now (out .exit)) (at .0) (s .0) ⌝ }
 {
-    let at = put_request(out, at, asked.machine, b'm', r.machine);
-    let at = put_request(out, at, asked.acknowledge, b'o', r.acknowledge);
-    put_request(out, at, asked.reply, b'r', r.reply)
+    let machine = &x[in_recipient::MACHINE..in_recipient::ACKNOWLEDGE];
+    let acknowledge = &x[in_recipient::ACKNOWLEDGE..in_recipient::REPLY];
+    let reply = &x[in_recipient::REPLY..in_recipient::END];
+    let at = put_request(out, at, asked.machine, b'm', machine);
+    let at = put_request(out, at, asked.acknowledge, b'o', acknowledge);
+    put_request(out, at, asked.reply, b'r', reply)
 }
 
-fn recipient_length(asked: Requests, r: Recipient) -> OctetSize
-    ensures { λ s. ⌜ (s .0 ≡ length (lineOf asked r)) × (s .0 ≤ 236) ⌝ }
+fn recipient_length(asked: Requests, x: &[u8]) -> OctetSize
+    requires { ⌜ length (now x) ≡ sizeOfRecipient ⌝ }
+    ensures { λ s. ⌜ (s .0 ≡ length (lineOf asked (recipientIn (now (x .entry))))) × (s .0 ≤ 236) ⌝ }
 {
-    let address = address_length(r.address);
-    let requests = requests_length(asked, r);
+    let address = address_length(&x[in_recipient::ADDRESS..in_recipient::MACHINE]);
+    let requests = requests_length(asked, x);
     OctetSize(address.0 + requests.0 + 3)
 }
 
-fn put_recipient(out: &mut [u8], at: OctetSize, asked: Requests, r: Recipient) -> OctetSize
-    requires { ⌜ at .0 + length (lineOf asked r) ≤ length (now out) ⌝ }
-    ensures { λ s. ⌜ Puts (lineOf asked r) (now (out .entry)) (now (out .exit)) (at .0) (s .0) ⌝ }
+fn put_recipient(out: &mut [u8], at: OctetSize, asked: Requests, x: &[u8]) -> OctetSize
+    requires { ⌜ (at .0 + length (lineOf asked (recipientIn (now x))) ≤ length (now out)) × (length (now x) ≡ sizeOfRecipient) ⌝ }
+    ensures { λ s. ⌜ Puts (lineOf asked (recipientIn (now (x .entry)))) (now (out .entry)) (now (out .exit)) (at .0) (s .0) ⌝ }
 {
     let at = put_octets(out, at, b"  ");
-    let at = put_address(out, at, r.address);
-    let at = put_requests(out, at, asked, r);
+    let at = put_address(out, at, &x[in_recipient::ADDRESS..in_recipient::MACHINE]);
+    let at = put_requests(out, at, asked, x);
     put_octet(out, at, b'\n')
 }
 
-pub fn recipients_length(asked: Requests, list: [Recipient; 16], count: u32) -> OctetSize
-    ensures { λ s. ⌜ (s .0 ≡ length (recipientLines (askOf asked) (map recipientOf (take count list)))) × (s .0 ≤ 3776) ⌝ }
+pub fn recipients_length(asked: Requests, list: &[u8], count: u32) -> OctetSize
+    requires { ⌜ length (now list) ≡ sizeOfRowRecipients ⌝ }
+    ensures { λ s. ⌜ (s .0 ≡ length (recipientLines (askOf asked) (map recipientOf (take count (many recipientIn sizeOfRecipient 16 (now (list .entry))))))) × (s .0 ≤ 3776) ⌝ }
 {
     let n = used(count, 16);
     let mut size = OctetSize(0);
     let mut i: usize = 0;
     while i < n {
-        let one = recipient_length(asked, list[i]);
+        let one = recipient_length(asked, entry(list, i, in_row::ENTRY));
         size = OctetSize(size.0 + one.0);
         i += 1;
     }
@@ -116,17 +136,17 @@ pub fn put_recipients(
     out: &mut [u8],
     at: OctetSize,
     asked: Requests,
-    list: [Recipient; 16],
+    list: &[u8],
     count: u32,
 ) -> OctetSize
-    requires { ⌜ at .0 + length (recipientLines (askOf asked) (map recipientOf (take count list))) ≤ length (now out) ⌝ }
-    ensures { λ s. ⌜ Puts (recipientLines (askOf asked) (map recipientOf (take count list))) (now (out .entry)) (now (out .exit)) (at .0) (s .0) ⌝ }
+    requires { ⌜ (at .0 + length (recipientLines (askOf asked) (map recipientOf (take count (many recipientIn sizeOfRecipient 16 (now list))))) ≤ length (now out)) × (length (now list) ≡ sizeOfRowRecipients) ⌝ }
+    ensures { λ s. ⌜ Puts (recipientLines (askOf asked) (map recipientOf (take count (many recipientIn sizeOfRecipient 16 (now (list .entry)))))) (now (out .entry)) (now (out .exit)) (at .0) (s .0) ⌝ }
 {
     let n = used(count, 16);
     let mut place = at;
     let mut i: usize = 0;
     while i < n {
-        place = put_recipient(out, place, asked, list[i]);
+        place = put_recipient(out, place, asked, entry(list, i, in_row::ENTRY));
         i += 1;
     }
     place

@@ -7,6 +7,7 @@ ghost use Rattle.codec.specs.Answer.{pick};
 ghost use Rattle.order.specs.Values.{addressOf, optionOf, keyOf};
 ghost use Rattle.order.specs.Requests.{askOf};
 ghost use Rattle.table.specs.Rows.{rowOf};
+ghost use Rattle.table_octets.specs.Table.{sizeOfKey, keyIn, sizeOfRow, rowIn};
 ghost use Rattle.row_text.specs.Text.{twoDigits, addressText, dtgText, extensionText, askedText, keyLine, rowText, countLine};
 ghost use Rattle.row_text.specs.Parts.{keyText};
 ghost use Rattle.row_text.specs.Puts.{Puts};
@@ -20,10 +21,15 @@ use crate::digits::put_two_digits;
 use crate::recipients::put_recipients;
 use crate::recipients::recipients_length;
 use bits::OctetSize;
+use cells::load_word;
 use header::Requests;
+use leaves::moment::load_stamp;
+use leaves::numbers::load_optional;
+use leaves::requests::load_requests;
 use optional::OptionalNumber;
-use order::Key;
-use table::Row;
+use record_octets::in_stamp;
+use table_octets::in_key;
+use table_octets::in_row;
 
 // A date or a time: two digits for each number, the mark between them.
 fn put_three(out: &mut [u8], at: OctetSize, mark: u8, a: u32, b: u32, d: u32) -> OctetSize
@@ -38,11 +44,11 @@ fn put_three(out: &mut [u8], at: OctetSize, mark: u8, a: u32, b: u32, d: u32) ->
 }
 
 // Behind a space.
-fn put_dtg(out: &mut [u8], at: OctetSize, k: Key) -> OctetSize
-    requires { ⌜ at .0 + 18 ≤ length (now out) ⌝ }
-    ensures { λ r. ⌜ Puts (32 ∷ dtgText (keyOf k)) (now (out .entry)) (now (out .exit)) (at .0) (r .0) ⌝ }
+fn put_dtg(out: &mut [u8], at: OctetSize, k: &[u8]) -> OctetSize
+    requires { ⌜ (at .0 + 18 ≤ length (now out)) × (length (now k) ≡ sizeOfKey) ⌝ }
+    ensures { λ r. ⌜ Puts (32 ∷ dtgText (keyOf (keyIn (now (k .entry))))) (now (out .entry)) (now (out .exit)) (at .0) (r .0) ⌝ }
 {
-    let stamp = k.stamp;
+    let stamp = load_stamp(&k[in_key::STAMP..in_key::END]);
     let dtg = stamp.dtg;
     let date = dtg.date;
     let time = dtg.time;
@@ -74,21 +80,29 @@ fn put_extension(out: &mut [u8], at: OctetSize, x: OptionalNumber) -> OctetSize
 }
 
 // The originator and the DTG.
-fn put_origin(out: &mut [u8], at: OctetSize, k: Key) -> OctetSize
-    requires { ⌜ at .0 + length (addressText (addressOf (k .address))) + 18 ≤ length (now out) ⌝ }
-    ensures { λ r. ⌜ Puts (addressText (addressOf (k .address)) ++ 32 ∷ dtgText (keyOf k)) (now (out .entry)) (now (out .exit)) (at .0) (r .0) ⌝ }
+fn put_origin(out: &mut [u8], at: OctetSize, k: &[u8]) -> OctetSize
+    requires { ⌜ (at .0 + length (addressText (addressOf (keyIn (now k) .address))) + 18 ≤ length (now out)) × (length (now k) ≡ sizeOfKey) ⌝ }
+    ensures { λ r. ⌜ Puts (addressText (addressOf (keyIn (now (k .entry)) .address)) ++ 32 ∷ dtgText (keyOf (keyIn (now (k .entry))))) (now (out .entry)) (now (out .exit)) (at .0) (r .0) ⌝ }
 {
-    let at = put_address(out, at, k.address);
+    let at = put_address(out, at, &k[in_key::ADDRESS..in_key::STAMP]);
     put_dtg(out, at, k)
 }
 
-fn put_key(out: &mut [u8], at: OctetSize, k: Key) -> OctetSize
-    requires { ⌜ at .0 + length (keyText k) ≤ length (now out) ⌝ }
-    ensures { λ r. ⌜ Puts (keyText k) (now (out .entry)) (now (out .exit)) (at .0) (r .0) ⌝ }
+fn load_extension(k: &[u8]) -> OptionalNumber
+    requires { ⌜ length (now k) ≡ sizeOfKey ⌝ }
+    ensures { λ r. ⌜ r ≡ keyIn (now (k .entry)) .stamp .extension ⌝ }
 {
-    let stamp = k.stamp;
+    let stamp = &k[in_key::STAMP..in_key::END];
+    load_optional(&stamp[in_stamp::EXTENSION..in_stamp::END])
+}
+
+fn put_key(out: &mut [u8], at: OctetSize, k: &[u8]) -> OctetSize
+    requires { ⌜ (at .0 + length (keyText (keyIn (now k))) ≤ length (now out)) × (length (now k) ≡ sizeOfKey) ⌝ }
+    ensures { λ r. ⌜ Puts (keyText (keyIn (now (k .entry)))) (now (out .entry)) (now (out .exit)) (at .0) (r .0) ⌝ }
+{
+    let extension = load_extension(k);
     let at = put_origin(out, at, k);
-    put_extension(out, at, stamp.extension)
+    put_extension(out, at, extension)
 }
 
 fn letter_length(asked: bool) -> OctetSize
@@ -128,19 +142,20 @@ fn put_letters(out: &mut [u8], at: OctetSize, asked: Requests) -> OctetSize
     put_letter(out, at, asked.reply, b'r')
 }
 
-fn key_line_length(k: Key, asked: Requests) -> OctetSize
-    ensures { λ r. ⌜ (r .0 ≡ length (keyLine (keyOf k) (askOf asked))) × (r .0 ≤ 234) ⌝ }
+fn key_line_length(k: &[u8], asked: Requests) -> OctetSize
+    requires { ⌜ length (now k) ≡ sizeOfKey ⌝ }
+    ensures { λ r. ⌜ (r .0 ≡ length (keyLine (keyOf (keyIn (now (k .entry)))) (askOf asked))) × (r .0 ≤ 234) ⌝ }
 {
-    let stamp = k.stamp;
-    let address = address_length(k.address);
-    let extension = extension_length(stamp.extension);
+    let held = load_extension(k);
+    let address = address_length(&k[in_key::ADDRESS..in_key::STAMP]);
+    let extension = extension_length(held);
     let letters = letters_length(asked);
     OctetSize(address.0 + extension.0 + letters.0 + 27)
 }
 
-fn put_key_line(out: &mut [u8], at: OctetSize, k: Key, asked: Requests) -> OctetSize
-    requires { ⌜ at .0 + length (keyLine (keyOf k) (askOf asked)) ≤ length (now out) ⌝ }
-    ensures { λ r. ⌜ Puts (keyLine (keyOf k) (askOf asked)) (now (out .entry)) (now (out .exit)) (at .0) (r .0) ⌝ }
+fn put_key_line(out: &mut [u8], at: OctetSize, k: &[u8], asked: Requests) -> OctetSize
+    requires { ⌜ (at .0 + length (keyLine (keyOf (keyIn (now k))) (askOf asked)) ≤ length (now out)) × (length (now k) ≡ sizeOfKey) ⌝ }
+    ensures { λ r. ⌜ Puts (keyLine (keyOf (keyIn (now (k .entry)))) (askOf asked)) (now (out .entry)) (now (out .exit)) (at .0) (r .0) ⌝ }
 {
     let at = put_key(out, at, k);
     let at = put_octets(out, at, b" asked ");
@@ -148,22 +163,25 @@ fn put_key_line(out: &mut [u8], at: OctetSize, k: Key, asked: Requests) -> Octet
     put_octet(out, at, b'\n')
 }
 
-pub fn row_length(r: Row) -> OctetSize
-    ensures { λ s. ⌜ (s .0 ≡ length (rowText (rowOf r))) × (s .0 ≤ 4010) ⌝ }
+pub fn row_length(x: &[u8]) -> OctetSize
+    requires { ⌜ length (now x) ≡ sizeOfRow ⌝ }
+    ensures { λ s. ⌜ (s .0 ≡ length (rowText (rowOf (rowIn (now (x .entry)))))) × (s .0 ≤ 4010) ⌝ }
 {
-    let list = r.recipients;
-    let key = key_line_length(r.key, r.asked);
-    let recipients = recipients_length(r.asked, list, r.count);
+    let asked = load_requests(&x[in_row::ASKED..in_row::UNUSED]);
+    let count = load_word(&x[in_row::COUNT..in_row::END]);
+    let key = key_line_length(&x[in_row::KEY..in_row::ASKED], asked);
+    let recipients = recipients_length(asked, &x[in_row::RECIPIENTS..in_row::COUNT], count);
     OctetSize(key.0 + recipients.0)
 }
 
-pub fn put_row(out: &mut [u8], at: OctetSize, r: Row) -> OctetSize
-    requires { ⌜ at .0 + length (rowText (rowOf r)) ≤ length (now out) ⌝ }
-    ensures { λ s. ⌜ Puts (rowText (rowOf r)) (now (out .entry)) (now (out .exit)) (at .0) (s .0) ⌝ }
+pub fn put_row(out: &mut [u8], at: OctetSize, x: &[u8]) -> OctetSize
+    requires { ⌜ (at .0 + length (rowText (rowOf (rowIn (now x)))) ≤ length (now out)) × (length (now x) ≡ sizeOfRow) ⌝ }
+    ensures { λ s. ⌜ Puts (rowText (rowOf (rowIn (now (x .entry))))) (now (out .entry)) (now (out .exit)) (at .0) (s .0) ⌝ }
 {
-    let list = r.recipients;
-    let at = put_key_line(out, at, r.key, r.asked);
-    put_recipients(out, at, r.asked, list, r.count)
+    let asked = load_requests(&x[in_row::ASKED..in_row::UNUSED]);
+    let count = load_word(&x[in_row::COUNT..in_row::END]);
+    let at = put_key_line(out, at, &x[in_row::KEY..in_row::ASKED], asked);
+    put_recipients(out, at, asked, &x[in_row::RECIPIENTS..in_row::COUNT], count)
 }
 
 pub fn count_line_length(n: u32) -> OctetSize

@@ -3,6 +3,4 @@ pub mod InOrder
 pub mod Search
 pub mod Moves
 pub mod Kept
-pub mod Whole
-mod Shift
 pub mod Seeking

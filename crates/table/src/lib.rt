@@ -4,8 +4,6 @@ use header::Requests;
 use order::Key;
 
 pub mod codes;
-pub mod rows;
-pub mod zero;
 
 // A recipient of a row, with the code that settled each request; 0 where there is none.
 #[repr(C)]

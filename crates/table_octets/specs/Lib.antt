@@ -1,2 +1,3 @@
 pub mod Table
 pub mod Typed
+pub mod Image

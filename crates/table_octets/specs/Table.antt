@@ -18,6 +18,12 @@ keyIn s = record { address = addressIn (part 0 80 s); stamp = stampIn (part 80 3
 unfoldable pub keyOctets : Key → List ℕ
 keyOctets x = addressOctets (x .address) ++ stampOctets (x .stamp)
 
+abbrev pub atKeyAddress : ℕ
+atKeyAddress = 0
+
+abbrev pub atKeyStamp : ℕ
+atKeyStamp = 80
+
 abbrev pub sizeOfRecipient : ℕ
 sizeOfRecipient = 92
 
@@ -27,6 +33,18 @@ recipientIn s = record { address = addressIn (part 0 80 s); machine = wordIn (pa
 unfoldable pub recipientOctets : Recipient → List ℕ
 recipientOctets x = addressOctets (x .address) ++ wordOctets (x .machine) ++ wordOctets (x .acknowledge) ++ wordOctets (x .reply)
 
+abbrev pub atRecipientAddress : ℕ
+atRecipientAddress = 0
+
+abbrev pub atRecipientMachine : ℕ
+atRecipientMachine = 80
+
+abbrev pub atRecipientAcknowledge : ℕ
+atRecipientAcknowledge = 84
+
+abbrev pub atRecipientReply : ℕ
+atRecipientReply = 88
+
 abbrev pub sizeOfRow : ℕ
 sizeOfRow = 1592
 
@@ -35,6 +53,18 @@ rowIn s = record { key = keyIn (part 0 112 s); asked = requestsIn (part 112 3 s)
 
 unfoldable pub rowOctets : Row → List ℕ
 rowOctets x = keyOctets (x .key) ++ requestsOctets (x .asked) ++ zeros 1 ++ manyOctets recipientOctets (x .recipients) ++ wordOctets (x .count)
+
+abbrev pub atRowKey : ℕ
+atRowKey = 0
+
+abbrev pub atRowAsked : ℕ
+atRowAsked = 112
+
+abbrev pub atRowRecipients : ℕ
+atRowRecipients = 116
+
+abbrev pub atRowCount : ℕ
+atRowCount = 1588
 
 abbrev pub sizeOfRowRecipients : ℕ
 sizeOfRowRecipients = 1472
@@ -47,6 +77,12 @@ tableIn s = record { rows = many rowIn 1592 32 (part 0 50944 s); count = wordIn 
 
 unfoldable pub tableOctets : Table → List ℕ
 tableOctets x = manyOctets rowOctets (x .rows) ++ wordOctets (x .count)
+
+abbrev pub atTableRows : ℕ
+atTableRows = 0
+
+abbrev pub atTableCount : ℕ
+atTableCount = 50944
 
 abbrev pub sizeOfTableRows : ℕ
 sizeOfTableRows = 50944

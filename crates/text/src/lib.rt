@@ -1,13 +1,12 @@
-// A text of 7-bit characters: read, and checked where it is held by value, as the table does.
+// A text of 7-bit characters, read.
 ghost use mathlib.Core.Path.{_≡_};
-ghost use Prim.Native.Nat.{_≤_, max};
+ghost use Prim.Native.Nat.{_≤_};
 ghost use lib.ListN.{length};
 ghost use Rattle.bits.specs.Bits.{bitsOf};
 ghost use Rattle.bits.specs.Units.{datagramLimit};
-ghost use Rattle.codec.specs.Refusals.{answer, checkNo};
+ghost use Rattle.codec.specs.Refusals.{answer};
 ghost use Rattle.text.specs.Texts.{text, noText};
 use bits::BitPlace;
-use codec::Check;
 use codec::Fault;
 use codec::Number;
 use codec::Step;
@@ -94,36 +93,4 @@ pub fn read_text(s: &[u8], at: BitPlace, most: usize) -> TextRead
             len: count as u32,
         },
     }
-}
-
-// The larger of two characters.
-fn larger(a: u8, b: u8) -> u8
-    ensures { λ r. ⌜ r ≡ max a b ⌝ }
-{
-    if a < b { b } else { a }
-}
-
-pub fn check_text(most: usize, t: Text) -> Check
-    requires { ⌜ most ≤ 64 ⌝ }
-    ensures { λ r. ⌜ checkNo r ≡ text most .check t ⌝ }
-{
-    let chars = t.chars;
-    let len = t.len as usize;
-    if most < len {
-        return Check::Bad(Fault::BadText);
-    }
-    if len == 0 {
-        return Check::Bad(Fault::BadText);
-    }
-    // the highest is judged at the end: a loop with one way out goes many characters at a time
-    let mut highest: u8 = 0;
-    let mut i: usize = 0;
-    while i < len {
-        highest = larger(highest, chars[i]);
-        i += 1;
-    }
-    if 126 < highest {
-        return Check::Bad(Fault::BadText);
-    }
-    Check::Fine
 }

@@ -1,6 +1,11 @@
-mod Building
 mod Marks
+mod OnValues
 mod Outcomes
 mod Ways
 mod Receipts
-mod Cells
+mod Standing
+mod Replaced
+mod Codes
+mod Receiving
+mod NewRow
+mod Tables

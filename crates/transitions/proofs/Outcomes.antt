@@ -19,33 +19,31 @@ use Rattle.calls.specs.Operations as theory
 use Rattle.calls.specs.Operations.{post, receipt, release}
 use Rattle.order.specs.Calls.{Call, Operation, Row, Rows, make, full, onTable}
 use Rattle.order.proofs.Calls.{refused-stays}
-use Rattle.table.specs.Rows.{see, Whole}
+use Rattle.table.specs.Rows.{see}
 use Rattle.table.specs.WellFormed.{wellFormed}
 use Rattle.table.specs.declared.Table.{Table}
 use Rattle.table.proofs.InOrder.{rows-in-order}
 use Rattle.arguments.specs.Arguments.{named}
-use Rattle.transitions.specs.Acts.{Acted}
+use Rattle.transitions.proofs.OnValues.{OnValues}
 
 -- ---- what each way promises
 
 module _ (d : Operation) (t : Table) where
   -- the rows refuse, with a number
-  pub acted-refused : Whole t → wellFormed t ≡ true → (n : ℕ) → 0 < n → n ≡ onTable (inr d) (see t) .0 → Acted (inr d) t n t
-  acted-refused cells w n l e =
+  pub values-refused : wellFormed t ≡ true → (n : ℕ) → 0 < n → n ≡ onTable (inr d) (see t) .0 → OnValues (inr d) t n t
+  values-refused w n l e =
       record {
         answer = e ∙ rw w;
         rows = sym (refused-stays (inr d) (see t) (rows-in-order t w) (λ z. omega (arith, e, z))) ∙ rw w;
         well = refl;
-        refused = λ r. refl;
-        cells = cells;
       }
 
-  pub acted-done : (t′ : Table) → wellFormed t ≡ true → 0 ≡ onTable (inr d) (see t) .0 → see t′ ≡ onTable (inr d) (see t) .1 → wellFormed t′ ≡ true → Whole t′ → Acted (inr d) t 0 t′
-  acted-done t′ w e s v c = record { answer = e ∙ rw w; rows = s ∙ rw w; well = v ∙ sym w; refused = λ r. absurd (r refl); cells = c }
+  pub values-done : (t′ : Table) → wellFormed t ≡ true → 0 ≡ onTable (inr d) (see t) .0 → see t′ ≡ onTable (inr d) (see t) .1 → wellFormed t′ ≡ true → OnValues (inr d) t 0 t′
+  values-done t′ w e s v = record { answer = e ∙ rw w; rows = s ∙ rw w; well = v ∙ sym w }
 
 -- a refusal that the code hands back
-pub acted-kept : (c : Call) (t t′ : Table) (n x : ℕ) → x ≡ n → t′ ≡ t → Acted c t n t → Acted c t x t′
-acted-kept c t t′ n x e f a = subst (λ (m : ℕ). Acted c t m t′) (sym e) (subst (λ (u : Table). Acted c t n u) (sym f) a)
+pub values-kept : (c : Call) (t t′ : Table) (n x : ℕ) → x ≡ n → t′ ≡ t → OnValues c t n t → OnValues c t x t′
+values-kept c t t′ n x e f a = subst (λ (m : ℕ). OnValues c t m t′) (sym e) (subst (λ (u : Table). OnValues c t n u) (sym f) a)
 
 -- ---- the table's form and the arguments come first
 
@@ -62,12 +60,12 @@ passed false f e = absurd (omega arith)
 pub judged-first : (x j f y : ℕ) (s w : Bool) → x ≡ first j y → j ≡ pick s f 30 → s ≡ w → x ≡ first (pick w f 30) y
 judged-first x j f y s w e h i = e ∙ ap (λ (n : ℕ). first n y) (h ∙ ap (λ (b : Bool). pick b f 30) i)
 
-module _ (d : Operation) (t : Table) (cells : Whole t) (f : ℕ) where
-  first-refused : 0 < pick (wellFormed t) f 30 → Acted (named f d) t (pick (wellFormed t) f 30) t
+module _ (d : Operation) (t : Table) (f : ℕ) where
+  first-refused : 0 < pick (wellFormed t) f 30 → OnValues (named f d) t (pick (wellFormed t) f 30) t
   first-refused l = by (wellFormed t) refl
     where
-      by : (b : Bool) → wellFormed t ≡ b → Acted (named f d) t (pick (wellFormed t) f 30) t
-      by false w = record { answer = rw w; rows = rw w; well = refl; refused = λ r. refl; cells = cells }
+      by : (b : Bool) → wellFormed t ≡ b → OnValues (named f d) t (pick (wellFormed t) f 30) t
+      by false w = record { answer = rw w; rows = rw w; well = refl }
       by true w =
           let p : 0 < f = rw w at l in
           let n = by-arguments f d (see t) p in
@@ -75,20 +73,18 @@ module _ (d : Operation) (t : Table) (cells : Whole t) (f : ℕ) where
             answer = rw w n;
             rows = sym (refused-stays (named f d) (see t) (rows-in-order t w) (λ z. omega (arith, n, z))) ∙ rw w;
             well = refl;
-            refused = λ r. refl;
-            cells = cells;
           }
 
   -- a call whose answer x is known: refused there, or by what the rows say
-  pub acts : (x : ℕ) (t′ : Table) → (0 < pick (wellFormed t) f 30 → x ≡ pick (wellFormed t) f 30) → (eqb x 0 ≡ false → t′ ≡ t) → (wellFormed t ≡ true → f ≡ 0 → Acted (inr d) t x t′) → Acted (named f d) t x t′
+  pub acts : (x : ℕ) (t′ : Table) → (0 < pick (wellFormed t) f 30 → x ≡ pick (wellFormed t) f 30) → (eqb x 0 ≡ false → t′ ≡ t) → (wellFormed t ≡ true → f ≡ 0 → OnValues (inr d) t x t′) → OnValues (named f d) t x t′
   acts x t′ early kept act = go (pick (wellFormed t) f 30) refl
     where
-      go : (n : ℕ) → pick (wellFormed t) f 30 ≡ n → Acted (named f d) t x t′
-      go zero e = let p = passed (wellFormed t) f e in subst (λ (g : ℕ). Acted (named g d) t x t′) (sym (p .1)) (act (p .0) (p .1))
+      go : (n : ℕ) → pick (wellFormed t) f 30 ≡ n → OnValues (named f d) t x t′
+      go zero e = let p = passed (wellFormed t) f e in subst (λ (g : ℕ). OnValues (named g d) t x t′) (sym (p .1)) (act (p .0) (p .1))
       go (suc n) e =
           let l : 0 < pick (wellFormed t) f 30 = omega (arith, e) in
           let z = early l in
-          acted-kept (named f d) t t′ _ x z (kept (ne-eqb x 0 (λ q. omega (arith, z, e, q)))) (first-refused l)
+          values-kept (named f d) t t′ _ x z (kept (ne-eqb x 0 (λ q. omega (arith, z, e, q)))) (first-refused l)
 
 -- ---- the calls on the rows
 

@@ -2,7 +2,7 @@
 use Prim.Native.Nat.{ℕ, zero, suc, _<_, _≤_}
 use mathlib.Core.Path.{_≡_, refl, ap, sym, _∙_, subst}
 use mathlib.Core.Bool.{Bool, true, false, not, cond, false≢true}
-use mathlib.Core.List.{List, map}
+use mathlib.Core.List.{List, [], _∷_, map}
 use mathlib.Core.Logic.{inr}
 use mathlib.Core.Option.{Option, none, some}
 use lib.ListN.{length, take, getD, set, length-take, List·getD-map}
@@ -27,7 +27,7 @@ use Rattle.order.specs.Calls.{Operation, Row as Cells, written, reply, replied,
 use Rattle.order.specs.declared.Key.{Key as DeclaredKey}
 use Rattle.calls.proofs.Orders.{Order}
 use Rattle.order.proofs.Orders.{by-address, by-key}
-use Rattle.table.specs.Rows.{see, markOf, rowOf, recipientOf, usedRows, usedRecipients, Whole}
+use Rattle.table.specs.Rows.{see, markOf, rowOf, recipientOf, usedRows, usedRecipients}
 use Rattle.table.specs.Search.{Stopped, keysOf, addressesOf, Placed}
 use Rattle.table.specs.WellFormed.{wellFormed, rowFine, recipientFine}
 use Rattle.table.specs.declared.Position.{Position}
@@ -39,10 +39,9 @@ use Rattle.table.proofs.Moves.{see-replaced, recipients-replaced}
 use Rattle.table.proofs.Kept.{replaced-well-formed, replaced-row-fine}
 use Rattle.table.proofs.Parts.{fine-table, fine-row, all-at}
 use Rattle.arguments.specs.Arguments.{named}
-use Rattle.transitions.specs.Acts.{Acted}
+use Rattle.transitions.proofs.OnValues.{OnValues}
 use Rattle.transitions.proofs.Marks.{settled-fine}
-use Rattle.transitions.proofs.Outcomes.{acted-refused, acted-done, acted-kept, passed, acts, receipt-missing}
-use Rattle.transitions.proofs.Cells.{set-whole, stored-again}
+use Rattle.transitions.proofs.Outcomes.{values-refused, values-done, values-kept, passed, acts, receipt-missing}
 use Rattle.transitions.proofs.Ways.{held-there}
 
 -- what is found at a place is what is sought
@@ -124,9 +123,9 @@ module _ (w : Address) (r : Cells) where
 
 -- ---- the table
 
-module _ (t : Table) (whole : Whole t) (well : wellFormed t ≡ true) (k : DeclaredKey) (from : Address) (code : ℕ) where
-  pub receipt-none : (at : ℕ) → Stopped byKey (keyOf k) (keysOf t) at false → Acted (inr (receipt (keyOf k) (from, code))) t 26 t
-  receipt-none at s = acted-refused (receipt (keyOf k) (from, code)) t whole well 26 (lit< tt) (receipt-missing (keyOf k) (see t) from code (row-free t (keyOf k) at well s))
+module _ (t : Table) (well : wellFormed t ≡ true) (k : DeclaredKey) (from : Address) (code : ℕ) where
+  pub receipt-none : (at : ℕ) → Stopped byKey (keyOf k) (keysOf t) at false → OnValues (inr (receipt (keyOf k) (from, code))) t 26 t
+  receipt-none at s = values-refused (receipt (keyOf k) (from, code)) t well 26 (lit< tt) (receipt-missing (keyOf k) (see t) from code (row-free t (keyOf k) at well s))
 
   module _ (at : ℕ) (d : Row) (s : Stopped byKey (keyOf k) (keysOf t) at true) where
     abbrev row : Row
@@ -140,25 +139,31 @@ module _ (t : Table) (whole : Whole t) (well : wellFormed t ≡ true) (k : Decla
         let e = patched-reply from r code (find byAddress from (r .1)) in
         rw (row-held t (keyOf k) at d s) (λ i. (e i .0, put byKey (keyOf k) (e i .2) (see t)))
 
-    pub receipt-refused : (m : ℕ) → 0 < m → m ≡ replied from code (rowOf row .1) .0 → Acted (inr (receipt (keyOf k) (from, code))) t m t
-    receipt-refused m l e = acted-refused (receipt (keyOf k) (from, code)) t whole well m l (rw outcome e)
+    pub receipt-refused : (m : ℕ) → 0 < m → m ≡ replied from code (rowOf row .1) .0 → OnValues (inr (receipt (keyOf k) (from, code))) t m t
+    receipt-refused m l e = values-refused (receipt (keyOf k) (from, code)) t well m l (rw outcome e)
 
     pub receipt-settled : (after : Row) (t′ : Table) → 0 ≡ replied from code (rowOf row .1) .0 → after .key ≡ row .key → rowOf after .1 ≡ (rowOf row .1 .0, mark from (replied from code (rowOf row .1) .1) (rowOf row .1 .1)) → rowFine after ≡ true →
-        t′ .count ≡ t .count → usedRows t′ ≡ set (usedRows t) at after → Whole t′ → Acted (inr (receipt (keyOf k) (from, code))) t 0 t′
-    receipt-settled after t′ e key cells good m u kept =
+        t′ .count ≡ t .count → usedRows t′ ≡ set (usedRows t) at after → OnValues (inr (receipt (keyOf k) (from, code))) t 0 t′
+    receipt-settled after t′ e key cells good m u =
         let used : at < t .count = used-rows (t .count) (t .rows) (s .inside refl) in
         let j : keyOf (row .key) ≡ keyOf k = ap (λ (z : Row). keyOf (z .key)) (sym (getD-take (t .count) (t .rows) at d used)) ∙ found by-key (λ (z : Row). keyOf (z .key)) (keyOf k) (usedRows t) at d s in
         let i : keyOf (after .key) ≡ keyOf k = ap keyOf key ∙ j in
         let p : Stopped byKey (keyOf (after .key)) (keysOf t) at true = rw i s in
         let v = see-replaced t t′ at after p u ∙ λ z. put byKey (i z) (some (cells z)) (see t) in
-        acted-done (receipt (keyOf k) (from, code)) t t′ well (rw outcome e) (rw outcome v) (replaced-well-formed t t′ at well after good p m u) kept
+        values-done (receipt (keyOf k) (from, code)) t t′ well (rw outcome e) (rw outcome v) (replaced-well-formed t t′ at well after good p m u)
       where
         used-rows : (m : ℕ) (l : List Row) → at < length (map (λ z. keyOf (z .key)) (take m l)) → at < m
         used-rows m l h = omega (arith, length-map (λ (z : Row). keyOf (z .key)) (take m l), length-take m l)
 
+-- what stands at a place, stored there
+stored-again : {A : Type 0} (l : List A) (i : ℕ) (d : A) → i < length l → set l i (getD l i d) ≡ l
+stored-again [] i d h = absurd (omega arith)
+stored-again (x ∷ l) zero d h = refl
+stored-again (x ∷ l) (suc i) d h = ap (λ m. x ∷ m) (stored-again l i d (omega arith))
+
 -- ---- the whole call, from what the code has found: the place of the key, and what the row says
 
-module _ (t : Table) (cells : Whole t) (k : DeclaredKey) (f : ℕ) (p : Position) (placed : wellFormed t ≡ true → Placed t k p) (from : Address) (code : ℕ) (told : ℕ) (e : told ≡ first (pick (wellFormed t) f 30) (pick (not (p .held)) 26 0)) where
+module _ (t : Table) (cells : length (t .rows) ≡ 32) (k : DeclaredKey) (f : ℕ) (p : Position) (placed : wellFormed t ≡ true → Placed t k p) (from : Address) (code : ℕ) (told : ℕ) (e : told ≡ first (pick (wellFormed t) f 30) (pick (not (p .held)) 26 0)) where
   abbrev asked : Operation
   asked = receipt (keyOf k) (from, code)
 
@@ -171,13 +176,13 @@ module _ (t : Table) (cells : Whole t) (k : DeclaredKey) (f : ℕ) (p : Position
       (q .0, q .1, g .1 h, fine-table t (q .0) .fits, subst (Stopped byKey (keyOf k) (keysOf t) (p .at)) h (g .2))
 
   -- no row has the key, or the call was refused before
-  pub receipt-early : eqb told 0 ≡ false → Acted (named f asked) t told t
+  pub receipt-early : eqb told 0 ≡ false → OnValues (named f asked) t told t
   unfolding first
-  receipt-early n = acts asked t cells f told t (λ l. e ∙ sym (first-refusal _ _ l)) (λ q. refl) (λ w z. by w z (p .held) refl)
+  receipt-early n = acts asked t f told t (λ l. e ∙ sym (first-refusal _ _ l)) (λ q. refl) (λ w z. by w z (p .held) refl)
     where
-      by : wellFormed t ≡ true → f ≡ 0 → (h : Bool) → p .held ≡ h → Acted (inr asked) t told t
+      by : wellFormed t ≡ true → f ≡ 0 → (h : Bool) → p .held ≡ h → OnValues (inr asked) t told t
       by w z true h = let m : told ≡ 0 = e ∙ rw (w, z, h) in absurd (false≢true (sym n ∙ eq-eqb told 0 m))
-      by w z false h = let m : told ≡ 26 = e ∙ rw (w, z, h) in acted-kept (inr asked) t t 26 told m refl (receipt-none t cells w k from code (p .at) (subst (Stopped byKey (keyOf k) (keysOf t) (p .at)) h (placed w .2)))
+      by w z false h = let m : told ≡ 26 = e ∙ rw (w, z, h) in values-kept (inr asked) t t 26 told m refl (receipt-none t w k from code (p .at) (subst (Stopped byKey (keyOf k) (keysOf t) (p .at)) h (placed w .2)))
 
   -- the row settles it or refuses it; a row that refuses is stored again
   module _ (z : told ≡ 0) (d : Row) (after : Row) where
@@ -187,17 +192,17 @@ module _ (t : Table) (cells : Whole t) (k : DeclaredKey) (f : ℕ) (p : Position
     abbrev stored : Table
     stored = record { rows = set (t .rows) (p .at) after; count = t .count }
 
-    pub receipt-acts : (x : ℕ) → x ≡ replied from code (rowOf old .1) .0 → after .key ≡ old .key → rowOf after .1 ≡ (rowOf old .1 .0, mark from (replied from code (rowOf old .1) .1) (rowOf old .1 .1)) → rowFine after ≡ true → ((x ≡ 0 → ⊥) → after ≡ old) → length (after .recipients) ≡ 16 → Acted (named f asked) t x stored
-    receipt-acts x r key rows good same long =
+    pub receipt-acts : (x : ℕ) → x ≡ replied from code (rowOf old .1) .0 → after .key ≡ old .key → rowOf after .1 ≡ (rowOf old .1 .0, mark from (replied from code (rowOf old .1) .1) (rowOf old .1 .1)) → rowFine after ≡ true → ((x ≡ 0 → ⊥) → after ≡ old) → OnValues (named f asked) t x stored
+    receipt-acts x r key rows good same =
         let q = receipt-there z in
-        subst (λ (g : ℕ). Acted (named g asked) t x stored) (sym (q .1)) (by x r same)
+        subst (λ (g : ℕ). OnValues (named g asked) t x stored) (sym (q .1)) (by x r same)
       where
-        by : (x : ℕ) → x ≡ replied from code (rowOf old .1) .0 → ((x ≡ 0 → ⊥) → after ≡ old) → Acted (inr asked) t x stored
+        by : (x : ℕ) → x ≡ replied from code (rowOf old .1) .0 → ((x ≡ 0 → ⊥) → after ≡ old) → OnValues (inr asked) t x stored
         by zero r same =
             let q = receipt-there z in
-            receipt-settled t cells (q .0) k from code (p .at) d (q .4) after stored r key rows good refl (take-set-lt (t .count) (t .rows) (p .at) after (q .2)) (set-whole t (p .at) after long cells)
+            receipt-settled t (q .0) k from code (p .at) d (q .4) after stored r key rows good refl (take-set-lt (t .count) (t .rows) (p .at) after (q .2))
         by (suc n) r same =
             let q = receipt-there z in
             let u : after ≡ old = same (λ i. omega (arith, i)) in
-            let v : stored ≡ t = ap (λ (y : Row). record { rows = set (t .rows) (p .at) y; count = t .count }) u ∙ ap (λ (l : List Row). record { rows = l; count = t .count }) (stored-again (t .rows) (p .at) d (omega (arith, cells .0, q .2, q .3))) in
-            acted-kept (inr asked) t stored (suc n) (suc n) refl v (receipt-refused t cells (q .0) k from code (p .at) d (q .4) (suc n) (omega arith) r)
+            let v : stored ≡ t = ap (λ (y : Row). record { rows = set (t .rows) (p .at) y; count = t .count }) u ∙ ap (λ (l : List Row). record { rows = l; count = t .count }) (stored-again (t .rows) (p .at) d (omega (arith, cells, q .2, q .3))) in
+            values-kept (inr asked) t stored (suc n) (suc n) refl v (receipt-refused t (q .0) k from code (p .at) d (q .4) (suc n) (omega arith) r)

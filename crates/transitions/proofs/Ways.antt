@@ -27,7 +27,7 @@ use Rattle.order.specs.Requests.{anyOf, blank, askOf}
 use Rattle.calls.specs.Operations.{post, release}
 use Rattle.order.specs.Calls.{Operation, make}
 use Rattle.order.specs.declared.Key.{Key as DeclaredKey}
-use Rattle.table.specs.Rows.{see, Whole, recipientOf, usedRows, usedRecipients}
+use Rattle.table.specs.Rows.{see, recipientOf, usedRows, usedRecipients}
 use Rattle.table.specs.Search.{Stopped, keysOf, Placed}
 use Rattle.table.specs.Zero.{noRow}
 use Rattle.table.specs.declared.Position.{Position}
@@ -39,9 +39,9 @@ use Rattle.table.proofs.Search.{row-held, row-free, length-see}
 use Rattle.table.proofs.Moves.{see-inserted, see-removed}
 use Rattle.table.proofs.Kept.{inserted-well-formed, removed-well-formed}
 use Rattle.arguments.specs.Arguments.{named}
-use Rattle.transitions.specs.Acts.{Acted}
+use Rattle.transitions.proofs.OnValues.{OnValues}
 use Rattle.transitions.proofs.Marks.{new-row-fine, new-row-some, some-used}
-use Rattle.transitions.proofs.Outcomes.{acted-refused, acted-done, acted-kept, passed, acts, release-missing, release-held, post-held, post-full, post-done}
+use Rattle.transitions.proofs.Outcomes.{values-refused, values-done, values-kept, passed, acts, release-missing, release-held, post-held, post-full, post-done}
 
 pub held-there : (h : Bool) (n : ℕ) → 0 < n → pick (not h) n 0 ≡ 0 → h ≡ true
 held-there true n l e = refl
@@ -49,44 +49,44 @@ held-there false n l e = absurd (omega (arith, l, e))
 
 -- ---- release
 
-module _ (t : Table) (cells : Whole t) (w : wellFormed t ≡ true) (k : DeclaredKey) where
-  pub release-none : (at : ℕ) → Stopped byKey (keyOf k) (keysOf t) at false → Acted (inr (release (keyOf k))) t 26 t
-  release-none at s = acted-refused (release (keyOf k)) t cells w 26 (lit< tt) (release-missing (keyOf k) (see t) (row-free t (keyOf k) at w s))
+module _ (t : Table) (cells : length (t .rows) ≡ 32) (w : wellFormed t ≡ true) (k : DeclaredKey) where
+  pub release-none : (at : ℕ) → Stopped byKey (keyOf k) (keysOf t) at false → OnValues (inr (release (keyOf k))) t 26 t
+  release-none at s = values-refused (release (keyOf k)) t w 26 (lit< tt) (release-missing (keyOf k) (see t) (row-free t (keyOf k) at w s))
 
-  pub release-done : (at : ℕ) (t′ : Table) (d : Row) → Stopped byKey (keyOf k) (keysOf t) at true → t′ .count + 1 ≡ t .count → usedRows t′ ≡ take at (usedRows t) ++ drop (at + 1) (usedRows t) → Whole t′ → Acted (inr (release (keyOf k))) t 0 t′
-  release-done at t′ d s n u c =
+  pub release-done : (at : ℕ) (t′ : Table) (d : Row) → Stopped byKey (keyOf k) (keysOf t) at true → t′ .count + 1 ≡ t .count → usedRows t′ ≡ take at (usedRows t) ++ drop (at + 1) (usedRows t) → OnValues (inr (release (keyOf k))) t 0 t′
+  release-done at t′ d s n u =
       let h = release-held (keyOf k) (see t) _ (row-held t (keyOf k) at d s) in
-      acted-done (release (keyOf k)) t t′ w (h .0) (see-removed t t′ at (keyOf k) s u ∙ h .1) (removed-well-formed t t′ at w (keyOf k) s n u) c
+      values-done (release (keyOf k)) t t′ w (h .0) (see-removed t t′ at (keyOf k) s u ∙ h .1) (removed-well-formed t t′ at w (keyOf k) s n u)
 
 -- ---- posting
 
-module _ (t : Table) (cells : Whole t) (w : wellFormed t ≡ true) (k : DeclaredKey) (a : Requests) (to : Addresses) where
+module _ (t : Table) (cells : length (t .rows) ≡ 32) (w : wellFormed t ≡ true) (k : DeclaredKey) (a : Requests) (to : Addresses) where
   abbrev here : List Address
   here = take (to .count) (to .list)
 
   abbrev posted : Operation
   posted = post (keyOf k) (make (askOf a) (map addressOf here))
 
-  pub post-twice : (at : ℕ) (d : Row) → Stopped byKey (keyOf k) (keysOf t) at true → Acted (inr posted) t 22 t
-  post-twice at d s = acted-refused posted t cells w 22 (lit< tt) (post-held (keyOf k) (see t) _ _ (row-held t (keyOf k) at d s))
+  pub post-twice : (at : ℕ) (d : Row) → Stopped byKey (keyOf k) (keysOf t) at true → OnValues (inr posted) t 22 t
+  post-twice at d s = values-refused posted t w 22 (lit< tt) (post-held (keyOf k) (see t) _ _ (row-held t (keyOf k) at d s))
 
   module _ (at : ℕ) (s : Stopped byKey (keyOf k) (keysOf t) at false) (within : t .count ≤ 32) where
     held : length (see t) ≡ t .count
-    held = length-see t (omega (arith, cells .0))
+    held = length-see t (omega (arith, cells))
 
-    pub post-over : 32 ≤ t .count → Acted (inr posted) t 23 t
-    post-over l = acted-refused posted t cells w 23 (lit< tt) (post-full (keyOf k) (see t) _ (row-free t (keyOf k) at w s) (le-leb 32 (length (see t)) (omega (arith, held))))
+    pub post-over : 32 ≤ t .count → OnValues (inr posted) t 23 t
+    post-over l = values-refused posted t w 23 (lit< tt) (post-full (keyOf k) (see t) _ (row-free t (keyOf k) at w s) (le-leb 32 (length (see t)) (omega (arith, held))))
 
     pub post-new : (row : Row) (t′ : Table) → t .count < 32 → row .key ≡ k → row .asked ≡ a → map recipientOf (usedRecipients row) ≡ sort byAddress (map (λ x. (addressOf x, blank)) here) → rowFine row ≡ true →
-        t′ .count ≡ t .count + 1 → usedRows t′ ≡ take at (usedRows t) ++ row ∷ drop at (usedRows t) → Whole t′ → Acted (inr posted) t 0 t′
+        t′ .count ≡ t .count + 1 → usedRows t′ ≡ take at (usedRows t) ++ row ∷ drop at (usedRows t) → OnValues (inr posted) t 0 t′
     unfolding make
-    post-new row t′ l is ask sorted good n u c =
+    post-new row t′ l is ask sorted good n u =
         let p : Stopped byKey (keyOf (row .key)) (keysOf t) at false = rw is s in
         let e = post-done (keyOf k) (see t) (make (askOf a) (map addressOf here)) (row-free t (keyOf k) at w s) (lt-leb 32 (length (see t)) (omega (arith, held))) in
         let z : map recipientOf (usedRecipients row) ≡ sort byAddress (map (λ r. (r, blank)) (map addressOf here)) = sorted ∙ ap (sort byAddress) (sym (map-map (λ r. (r, blank)) addressOf here)) in
         let v : see t′ ≡ put byKey (keyOf k) (some (make (askOf a) (map addressOf here))) (see t) =
         see-inserted t t′ at row p u ∙ λ i. put byKey (keyOf (is i)) (some (askOf (ask i), z i)) (see t) in
-        acted-done posted t t′ w (e .0) (v ∙ e .1) (inserted-well-formed t t′ at w row good p l n u) c
+        values-done posted t t′ w (e .0) (v ∙ e .1) (inserted-well-formed t t′ at w row good p l n u)
 
   -- the new row is a fine row
   pub post-row : keyFault k ≡ 0 → anyOf (askOf a) ≡ true → addresses 15 .check to ≡ 0 → (row : Row) → row .key ≡ k → row .asked ≡ a → row .count ≤ to .count →
@@ -103,7 +103,7 @@ module _ (t : Table) (cells : Whole t) (w : wellFormed t ≡ true) (k : Declared
 
 -- ---- the whole calls, from what the code has found: the place of the key, and the answer
 
-module _ (t : Table) (cells : Whole t) (k : DeclaredKey) (f : ℕ) (p : Position) (placed : wellFormed t ≡ true → Placed t k p) where
+module _ (t : Table) (cells : length (t .rows) ≡ 32) (k : DeclaredKey) (f : ℕ) (p : Position) (placed : wellFormed t ≡ true → Placed t k p) where
   at-place : wellFormed t ≡ true → (h : Bool) → p .held ≡ h → Stopped byKey (keyOf k) (keysOf t) (p .at) h
   at-place w h e = subst (Stopped byKey (keyOf k) (keysOf t) (p .at)) e (placed w .2)
 
@@ -118,18 +118,18 @@ module _ (t : Table) (cells : Whole t) (k : DeclaredKey) (f : ℕ) (p : Position
       (placed w .1 (held-there (p .held) 26 (lit< tt) (a .1)), few w)
 
   pub release-acts : (x : ℕ) (t′ : Table) → x ≡ first (pick (wellFormed t) f 30) (pick (not (p .held)) 26 0) → (eqb x 0 ≡ false → t′ ≡ t) →
-      (eqb x 0 ≡ true → (t′ .count + 1 ≡ t .count) × (usedRows t′ ≡ take (p .at) (usedRows t) ++ drop (p .at + 1) (usedRows t))) → Whole t′ → Acted (named f (release (keyOf k))) t x t′
+      (eqb x 0 ≡ true → (t′ .count + 1 ≡ t .count) × (usedRows t′ ≡ take (p .at) (usedRows t) ++ drop (p .at + 1) (usedRows t))) → OnValues (named f (release (keyOf k))) t x t′
   unfolding first
-  release-acts x t′ e kept changed c = acts (release (keyOf k)) t cells f x t′ (λ l. e ∙ sym (first-refusal _ _ l)) kept (λ w z. by w z (p .held) refl)
+  release-acts x t′ e kept changed = acts (release (keyOf k)) t f x t′ (λ l. e ∙ sym (first-refusal _ _ l)) kept (λ w z. by w z (p .held) refl)
     where
-      by : wellFormed t ≡ true → f ≡ 0 → (h : Bool) → p .held ≡ h → Acted (inr (release (keyOf k))) t x t′
+      by : wellFormed t ≡ true → f ≡ 0 → (h : Bool) → p .held ≡ h → OnValues (inr (release (keyOf k))) t x t′
       by w z true h =
           let n : x ≡ 0 = e ∙ rw (w, z, h) in
           let u = changed (eq-eqb x 0 n) in
-          subst (λ (m : ℕ). Acted (inr (release (keyOf k))) t m t′) (sym n) (release-done t cells w k (p .at) t′ noRow (at-place w true h) (u .0) (u .1) c)
+          subst (λ (m : ℕ). OnValues (inr (release (keyOf k))) t m t′) (sym n) (release-done t cells w k (p .at) t′ noRow (at-place w true h) (u .0) (u .1))
       by w z false h =
           let n : x ≡ 26 = e ∙ rw (w, z, h) in
-          acted-kept _ t t′ 26 x n (kept (ne-eqb x 0 (λ q. omega (arith, n, q)))) (release-none t cells w k (p .at) (at-place w false h))
+          values-kept _ t t′ 26 x n (kept (ne-eqb x 0 (λ q. omega (arith, n, q)))) (release-none t cells w k (p .at) (at-place w false h))
 
   module _ (a : Requests) (to : Addresses) (legal : f ≡ 0 → (keyFault k ≡ 0) × (anyOf (askOf a) ≡ true) × (addresses 15 .check to ≡ 0)) (x : ℕ) (e : x ≡ first (first (pick (wellFormed t) f 30) (pick (p .held) 22 0)) (pick (leb 32 (t .count)) 23 0)) where
     -- where it is done: the arguments are fine, the key is free and so is a line
@@ -146,23 +146,23 @@ module _ (t : Table) (cells : Whole t) (k : DeclaredKey) (f : ℕ) (p : Position
 
     pub post-acts : (t′ : Table) → (eqb x 0 ≡ false → t′ ≡ t) → (row : Row) →
         (eqb x 0 ≡ true → (row .key ≡ k) × (row .asked ≡ a) × (row .count ≤ to .count) × (map recipientOf (usedRecipients row) ≡ sort byAddress (map (λ y. (addressOf y, blank)) (take (to .count) (to .list)))) × (all (recipientFine a) (usedRecipients row) ≡ true)) →
-        (eqb x 0 ≡ true → (t′ .count ≡ t .count + 1) × (usedRows t′ ≡ take (p .at) (usedRows t) ++ row ∷ drop (p .at) (usedRows t))) → Whole t′ →
-        Acted (named f (post (keyOf k) (make (askOf a) (map addressOf (take (to .count) (to .list)))))) t x t′
+        (eqb x 0 ≡ true → (t′ .count ≡ t .count + 1) × (usedRows t′ ≡ take (p .at) (usedRows t) ++ row ∷ drop (p .at) (usedRows t))) →
+        OnValues (named f (post (keyOf k) (make (askOf a) (map addressOf (take (to .count) (to .list)))))) t x t′
     unfolding first
-    post-acts t′ kept row built changed c = acts _ t cells f x t′ (λ l. e ∙ sym (first-refusal _ _ (subst (λ (m : ℕ). 0 < m) (first-refusal _ _ l) l)) ∙ sym (first-refusal _ _ l)) kept (λ w z. by w z (p .held) refl (leb 32 (t .count)) refl)
+    post-acts t′ kept row built changed = acts _ t f x t′ (λ l. e ∙ sym (first-refusal _ _ (subst (λ (m : ℕ). 0 < m) (first-refusal _ _ l) l)) ∙ sym (first-refusal _ _ l)) kept (λ w z. by w z (p .held) refl (leb 32 (t .count)) refl)
       where
-        by : wellFormed t ≡ true → f ≡ 0 → (h : Bool) → p .held ≡ h → (l : Bool) → leb 32 (t .count) ≡ l → Acted (inr (post (keyOf k) (make (askOf a) (map addressOf (take (to .count) (to .list)))))) t x t′
+        by : wellFormed t ≡ true → f ≡ 0 → (h : Bool) → p .held ≡ h → (l : Bool) → leb 32 (t .count) ≡ l → OnValues (inr (post (keyOf k) (make (askOf a) (map addressOf (take (to .count) (to .list)))))) t x t′
         by w z true h l i =
             let n : x ≡ 22 = e ∙ rw (w, z, h) in
-            acted-kept _ t t′ 22 x n (kept (ne-eqb x 0 (λ q. omega (arith, n, q)))) (post-twice t cells w k a to (p .at) noRow (at-place w true h))
+            values-kept _ t t′ 22 x n (kept (ne-eqb x 0 (λ q. omega (arith, n, q)))) (post-twice t cells w k a to (p .at) noRow (at-place w true h))
         by w z false h true i =
             let n : x ≡ 23 = e ∙ rw (w, z, h, i) in
-            acted-kept _ t t′ 23 x n (kept (ne-eqb x 0 (λ q. omega (arith, n, q)))) (post-over t cells w k a to (p .at) (at-place w false h) (few w) (leb-true 32 (t .count) i))
+            values-kept _ t t′ 23 x n (kept (ne-eqb x 0 (λ q. omega (arith, n, q)))) (post-over t cells w k a to (p .at) (at-place w false h) (few w) (leb-true 32 (t .count) i))
         by w z false h false i =
             let n : x ≡ 0 = e ∙ rw (w, z, h, i) in
             let g = legal z in
             let r = built (eq-eqb x 0 n) in
             let u = changed (eq-eqb x 0 n) in
             let good = post-row t cells w k a to (g .0) (g .1) (g .2) row (r .0) (r .1) (r .2) (r .3) (r .4) in
-            subst (λ (m : ℕ). Acted (inr (post (keyOf k) (make (askOf a) (map addressOf (take (to .count) (to .list)))))) t m t′) (sym n)
-            (post-new t cells w k a to (p .at) (at-place w false h) (few w) row t′ (leb-false 32 (t .count) i) (r .0) (r .1) (r .3) good (u .0) (u .1) c)
+            subst (λ (m : ℕ). OnValues (inr (post (keyOf k) (make (askOf a) (map addressOf (take (to .count) (to .list)))))) t m t′) (sym n)
+            (post-new t cells w k a to (p .at) (at-place w false h) (few w) row t′ (leb-false 32 (t .count) i) (r .0) (r .1) (r .3) good (u .0) (u .1))

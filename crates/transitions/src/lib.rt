@@ -1,43 +1,39 @@
-// What posting, receipt and release do to any table, once it is known what their arguments say: a table
-// that is not well formed is refused first, then what the arguments refuse, then what the rows refuse, and
-// then the operation is done. A call goes one way whether it is refused or not, and the change itself knows
-// which: each further way would cost a copy of the table.
+// What posting, receipt and release do to the octets of any table, once it is known what their arguments
+// say: a table that is not well formed is refused first, then what the arguments refuse, then what the rows
+// refuse, and only then does the first octet change.
 ghost use mathlib.Core.Path.{_≡_};
 ghost use mathlib.Core.Bool.{true};
 ghost use mathlib.Core.List.{map};
 ghost use Prim.Native.Nat.{_<_};
 ghost use lib.Dec.{eqb};
-ghost use lib.ListN.{take};
+ghost use lib.ListN.{length, take};
 ghost use Rattle.codec.specs.Answer.{pick};
 ghost use Rattle.codec.specs.Codec.{first};
 ghost use Rattle.header.specs.Table.{addresses};
+ghost use Rattle.record_octets.specs.Record.{sizeOfAddress, addressIn, sizeOfAddresses, addressesIn};
 ghost use Rattle.order.specs.Values.{addressOf, keyOf, keyFault};
 ghost use Rattle.order.specs.Requests.{anyOf, askOf};
 ghost use Rattle.calls.specs.Operations as operation;
 ghost use Rattle.order.specs.Calls.{make};
+ghost use Rattle.table_octets.specs.Table.{sizeOfKey, keyIn, keyOctets, sizeOfTable, tableIn};
+ghost use Rattle.table_octets.specs.Typed.{TypedKey};
+ghost use Rattle.table_octets.specs.Image.{keyImage};
 ghost use Rattle.arguments.specs.Arguments.{named};
 ghost use Rattle.arguments.specs.Told.{pendingNo, answerNo, answerPlace};
-ghost use Rattle.transitions.specs.Acts.{Acted};
+ghost use Rattle.transitions.specs.Transition.{Transition};
 use arguments::Answer;
 use arguments::PendingFault;
 use arguments::refusal;
-use header::Address;
-use header::Addresses;
+use cells::load_word;
 use header::Requests;
 use inspect::inspect;
-use order::Key;
-use table::Table;
-use table::rows::insert_row;
-use table::rows::remove_row;
+use places::put_row;
+use places::remove_row;
+use settled::settled_row;
+use table_octets::in_table;
 
-pub mod row;
-pub mod settled;
-
-// The answer, and the table afterwards; refused, the table as it came.
-pub struct TableAfter {
-    pub answer: Answer,
-    pub table: Table,
-}
+mod places;
+mod settled;
 
 fn is_done(a: Answer) -> bool
     ensures { λ r. ⌜ r ≡ eqb (answerNo a) 0 ⌝ }
@@ -73,62 +69,65 @@ fn judged(well: bool, said: Answer) -> Answer
     said
 }
 
-// A row for a message, unless its key is held or no line is free.
-pub fn post_row(t: Table, key: Key, asked: Requests, to: Addresses, said: Answer) -> TableAfter
-    requires { ⌜ (answerPlace said ≡ 0) × (answerNo said ≡ 0 → (keyFault key ≡ 0) × (anyOf (askOf asked) ≡ true) × (addresses 15 .check to ≡ 0)) ⌝ }
-    ensures { λ r. ⌜ Acted (named (answerNo said) (operation.post (keyOf key) (make (askOf asked) (map addressOf (take (to .count) (to .list)))))) t (answerNo (r .answer)) (r .table) × (answerPlace (r .answer) ≡ 0) ⌝ }
+// The count of rows.
+fn row_count(t: &[u8]) -> u32
+    requires { ⌜ length (now t) ≡ sizeOfTable ⌝ }
+    ensures { λ r. ⌜ r ≡ tableIn (now (t .entry)) .count ⌝ }
+{
+    load_word(&t[in_table::COUNT..in_table::END])
+}
+
+// A row for a message, unless its key is held or no line is free. The key has nothing in its unused cells.
+pub fn post_row(t: &mut [u8], key: &[u8], asked: Requests, to: &[u8], said: Answer) -> Answer
+    requires { ⌜ (length (now t) ≡ sizeOfTable) × (now key ≡ keyOctets (keyImage (keyOf (keyIn (now key))))) × TypedKey (keyImage (keyOf (keyIn (now key)))) × (length (now to) ≡ sizeOfAddresses) × (answerPlace said ≡ 0) × (answerNo said ≡ 0 → (keyFault (keyIn (now key)) ≡ 0) × (anyOf (askOf asked) ≡ true) × (addresses 15 .check (addressesIn (now to)) ≡ 0)) ⌝ }
+    ensures { λ r. ⌜ Transition (named (answerNo said) (operation.post (keyOf (keyIn (now (key .entry)))) (make (askOf asked) (map addressOf (take (addressesIn (now (to .entry)) .count) (addressesIn (now (to .entry)) .list)))))) (now (t .entry)) (answerNo r) (now (t .exit)) × (answerPlace r ≡ 0) ⌝ }
 {
     let seen = inspect(t, key);
     let first = judged(seen.well, said);
     let free = refused_if(first, seen.place.held, PendingFault::KeyHeld);
-    let full = 32 <= t.count;
+    let count = row_count(t);
+    let full = 32 <= count;
     let answer = refused_if(free, full, PendingFault::TableFull);
-    let done = is_done(answer);
-    let row = row::new_row(key, asked, to, done);
-    let table = insert_row(t, done, seen.place.at, row);
-    TableAfter {
-        answer: answer,
-        table: table,
+    let at = seen.place.at;
+    if !is_done(answer) {
+        return answer;
     }
+    put_row(t, count, at, key, asked, to);
+    answer
 }
 
-// The code written in the row with the key, at the answerer, to each open request that it answers. A row
-// that refuses it is stored as it was.
-pub fn settle_row(t: Table, key: Key, from: Address, code: u32, said: Answer) -> TableAfter
-    requires { ⌜ (answerPlace said ≡ 0) × (answerNo said ≡ 0 → 0 < code) ⌝ }
-    ensures { λ r. ⌜ Acted (named (answerNo said) (operation.receipt (keyOf key) (addressOf from, code))) t (answerNo (r .answer)) (r .table) × (answerPlace (r .answer) ≡ 0) ⌝ }
+// The code written in the row with the key, at the answerer, to each open request that it answers.
+pub fn settle_row(t: &mut [u8], key: &[u8], from: &[u8], code: u32, said: Answer) -> Answer
+    requires { ⌜ (length (now t) ≡ sizeOfTable) × (length (now key) ≡ sizeOfKey) × (length (now from) ≡ sizeOfAddress) × (answerPlace said ≡ 0) × (answerNo said ≡ 0 → 0 < code) ⌝ }
+    ensures { λ r. ⌜ Transition (named (answerNo said) (operation.receipt (keyOf (keyIn (now (key .entry)))) (addressOf (addressIn (now (from .entry))), code))) (now (t .entry)) (answerNo r) (now (t .exit)) × (answerPlace r ≡ 0) ⌝ }
 {
     let seen = inspect(t, key);
     let first = judged(seen.well, said);
-    let held = seen.place.held;
-    let mut answer = refused_if(first, !held, PendingFault::NoRow);
+    let there = seen.place.held;
+    let answer = refused_if(first, !there, PendingFault::NoRow);
     let at = seen.place.at;
-    let mut next = t;
-    if is_done(answer) {
-        let row = next.rows[at];
-        let after = settled::settled_row(row, from, code);
-        answer = after.answer;
-        let settled = after.row;
-        next.rows[at] = settled;
+    if !is_done(answer) {
+        return answer;
     }
-    TableAfter {
-        answer: answer,
-        table: next,
-    }
+    let start = at * in_table::ENTRY;
+    let end = start + in_table::ENTRY;
+    settled_row(&mut t[start..end], from, code)
 }
 
 // The row with the key taken out.
-pub fn release_row(t: Table, key: Key, said: Answer) -> TableAfter
-    requires { ⌜ answerPlace said ≡ 0 ⌝ }
-    ensures { λ r. ⌜ Acted (named (answerNo said) (operation.release (keyOf key))) t (answerNo (r .answer)) (r .table) × (answerPlace (r .answer) ≡ 0) ⌝ }
+pub fn release_row(t: &mut [u8], key: &[u8], said: Answer) -> Answer
+    requires { ⌜ (length (now t) ≡ sizeOfTable) × (length (now key) ≡ sizeOfKey) × (answerPlace said ≡ 0) ⌝ }
+    ensures { λ r. ⌜ Transition (named (answerNo said) (operation.release (keyOf (keyIn (now (key .entry)))))) (now (t .entry)) (answerNo r) (now (t .exit)) × (answerPlace r ≡ 0) ⌝ }
 {
     let seen = inspect(t, key);
     let first = judged(seen.well, said);
     let held = seen.place.held;
     let answer = refused_if(first, !held, PendingFault::NoRow);
-    let table = remove_row(t, is_done(answer), seen.place.at);
-    TableAfter {
-        answer: answer,
-        table: table,
+    let at = seen.place.at;
+    if !is_done(answer) {
+        return answer;
     }
+    let count = row_count(t);
+    remove_row(t, count, at);
+    answer
 }

@@ -1,5 +1,5 @@
-//! The calls, proved against fast: same inputs, by turns. Both sides are lent the record and work on it where it lies;
-//! what the proved calls took while the record went over by value stands in docs/BENCHMARKS.md.
+//! The calls, proved against fast: same inputs, by turns. Both sides are lent the record and the table and work on them
+//! where they lie; what the proved calls took while these went over by value stands in docs/BENCHMARKS.md.
 
 use crate::fast;
 use crate::same::Call;
@@ -194,14 +194,14 @@ fn explain(list: &[Sample]) {
          tables are put back outside the time."
     );
     println!(
-        "proved: the wrapper's call, the record lent, the table by value. fast: safe Rust by reference, fields by \
-         octet fragments as the proved code takes them, the table changed in place. words: fast with fields out of \
-         64-bit words. by value: fast behind a signature that takes all by value, record and table copied in, the \
-         table copied out and stored."
+        "proved: the wrapper's call, record and table lent. fast: safe Rust by reference, fields by octet fragments \
+         as the proved code takes them, the table changed in place. words: fast with fields out of 64-bit words. by \
+         value: fast behind a signature that takes all by value, record and table copied in, the table copied out \
+         and stored."
     );
     println!(
-        "What proved took while the record went by value too is in docs/BENCHMARKS.md; the other columns are made as \
-         they were then.\n"
+        "What proved took while record or table went by value is in docs/BENCHMARKS.md; the other columns are made \
+         as they were then.\n"
     );
 }
 

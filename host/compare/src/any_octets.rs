@@ -11,7 +11,7 @@ use crate::laid;
 use crate::pool::{self, Pool};
 use crate::random::Random;
 use crate::records;
-use crate::rubbish::any_octets;
+use crate::rubbish::{any_octets, loosen, set};
 use crate::run::Run;
 use crate::tables;
 
@@ -28,15 +28,6 @@ const COUNT: usize = offset_of!(Header, blocks.count);
 
 fn put(record: &mut RecordOctets, at: usize, number: u32) {
     record.octets_mut()[at..at + 4].copy_from_slice(&number.to_le_bytes());
-}
-
-/// Any octet but 0, and often 1.
-fn set(random: &mut Random) -> u8 {
-    if random.coin() {
-        1
-    } else {
-        1 + random.below(255) as u8
-    }
 }
 
 // ---------------------------------------------------------------------------
@@ -77,7 +68,7 @@ fn aim(record: &mut RecordOctets, places: &Places, random: &mut Random) {
 }
 
 /// Mostly below a limit; at times anything.
-fn small(limit: u32, random: &mut Random) -> u32 {
+pub fn small(limit: u32, random: &mut Random) -> u32 {
     match random.below(64) {
         0 => random.next() as u32,
         1 => random.below(256),
@@ -105,7 +96,7 @@ pub fn replaced(run: &mut Run, pool: &Pool, table: &Board) -> Lending {
     }
     laid::over(&case.record, &mut record);
     if random.coin() {
-        loosen(&mut record, &run.places, random);
+        loosen(record.octets_mut(), &run.places, random);
     }
     for _ in 0..1 + random.below(8) {
         let at = place(blocks, &run.places, random);
@@ -114,16 +105,6 @@ pub fn replaced(run: &mut Run, pool: &Pool, table: &Board) -> Lending {
     }
     let count = if random.one_in(16) { other_count(case.count, random) } else { case.count };
     Lending { record, count, block: tables::block_number(blocks, random) }
-}
-
-/// Every flag that is 1 may be any octet but 0.
-fn loosen(record: &mut RecordOctets, places: &Places, random: &mut Random) {
-    let octets = record.octets_mut();
-    for at in &places.flags {
-        if octets[*at] == 1 {
-            octets[*at] = set(random);
-        }
-    }
 }
 
 /// Mostly in the fields before the blocks or in a block that is used, and often in a flag or a number there.
@@ -141,7 +122,7 @@ fn place(blocks: usize, places: &Places, random: &mut Random) -> usize {
 }
 
 /// Another octet, or by chance the same.
-fn instead(octet: u8, random: &mut Random) -> u8 {
+pub fn instead(octet: u8, random: &mut Random) -> u8 {
     match random.below(4) {
         0 => random.next() as u8,
         1 => random.below(20) as u8,

@@ -95,7 +95,7 @@ macro_rules! cells {
 
 pruvelaccio::each_struct!(cells);
 
-/// Where the flags, the numbers and the characters of a record stand.
+/// Where the flags, the numbers and the characters of a struct stand.
 pub struct Places {
     pub flags: Vec<usize>,
     pub numbers: Vec<usize>,
@@ -103,10 +103,10 @@ pub struct Places {
 }
 
 impl Places {
-    pub fn of_a_record() -> Places {
+    pub fn of<T: Cells>() -> Places {
         let mut places = Places { flags: Vec::new(), numbers: Vec::new(), characters: Vec::new() };
-        let mut header = Header::ZERO;
-        header.each(0, &mut |at, cell| match cell {
+        let mut whole = T::ZERO;
+        whole.each(0, &mut |at, cell| match cell {
             Cell::Flag(_) => places.flags.push(at),
             Cell::Number(_) => places.numbers.push(at),
             Cell::Char(_) => places.characters.push(at),

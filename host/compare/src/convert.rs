@@ -1,4 +1,4 @@
-//! From the second program's records to the product's and, for tables, back.
+//! From the second program's records to the product's struct.
 //!
 //! Only used cells are written: what stands in the others is up to the caller (rubbish for a question, zeros for
 //! an expected answer). A list or text longer than its array is held as its count, with cells up to the array's
@@ -143,80 +143,4 @@ pub fn header(from: &plain::Header, to: &mut product::Header, stretch: u32) {
     to.sized = from.sized;
     to.blocks.count = count(from.blocks.len(), to.blocks.list.len(), stretch);
     from.blocks.iter().zip(&mut to.blocks.list).for_each(|(from, to)| block(from, to, stretch));
-}
-
-pub fn key(from: &plain::Key, to: &mut product::Key, stretch: u32) {
-    address(&from.address, &mut to.address, stretch);
-    stamp(&from.stamp, &mut to.stamp);
-}
-
-fn row(from: &plain::Row, to: &mut product::Row, stretch: u32) {
-    key(&from.key, &mut to.key, stretch);
-    to.asked = requests(&from.asked);
-    to.count = count(from.recipients.len(), to.recipients.len(), stretch);
-    for (from, to) in from.recipients.iter().zip(&mut to.recipients) {
-        address(&from.address, &mut to.address, stretch);
-        to.machine = from.machine;
-        to.acknowledge = from.acknowledge;
-        to.reply = from.reply;
-    }
-}
-
-pub fn table(from: &plain::Board, to: &mut product::Table, stretch: u32) {
-    to.count = count(from.rows.len(), to.rows.len(), stretch);
-    from.rows.iter().zip(&mut to.rows).for_each(|(from, to)| row(from, to, stretch));
-}
-
-// ---------------------------------------------------------------------------
-// Back. Nothing is given where a count passes its array: no well-formed table has that.
-
-fn taken_number(from: &product::OptionalNumber) -> Option<u32> {
-    from.present.then_some(from.value)
-}
-
-fn taken_address(from: &product::Address) -> Option<plain::Address> {
-    let mut taken = plain::Address { urn: taken_number(&from.urn), name: None };
-    if from.name.present {
-        let text = &from.name.text;
-        taken.name = Some(text.chars.get(..text.len as usize)?.to_vec());
-    }
-    Some(taken)
-}
-
-fn taken_key(from: &product::Key) -> Option<plain::Key> {
-    let product::Dtg { date, time } = from.stamp.dtg;
-    let dtg = plain::Dtg {
-        year: date.year,
-        month: date.month,
-        day: date.day,
-        hour: time.hour,
-        minute: time.minute,
-        second: time.second,
-    };
-    let stamp = plain::Stamp { dtg, extension: taken_number(&from.stamp.extension) };
-    Some(plain::Key { address: taken_address(&from.address)?, stamp })
-}
-
-fn taken_recipient(from: &product::Recipient) -> Option<plain::Recipient> {
-    Some(plain::Recipient {
-        address: taken_address(&from.address)?,
-        machine: from.machine,
-        acknowledge: from.acknowledge,
-        reply: from.reply,
-    })
-}
-
-fn taken_row(from: &product::Row) -> Option<plain::Row> {
-    let product::Requests { machine, acknowledge, reply } = from.asked;
-    let used = from.recipients.get(..from.count as usize)?;
-    Some(plain::Row {
-        key: taken_key(&from.key)?,
-        asked: plain::Requests { machine, acknowledge, reply },
-        recipients: used.iter().map(taken_recipient).collect::<Option<_>>()?,
-    })
-}
-
-pub fn taken_table(from: &product::Table) -> Option<plain::Board> {
-    let used = from.rows.get(..from.count as usize)?;
-    Some(plain::Board { rows: used.iter().map(taken_row).collect::<Option<_>>()? })
 }

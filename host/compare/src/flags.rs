@@ -3,13 +3,13 @@
 
 use std::mem::{offset_of, size_of};
 
-use pruvelaccio::{RecordOctets, Table};
+use pruvelaccio::{RecordOctets, TableOctets};
 use reference::{Address, Block, Board, Dtg, Header, Identity, Recipient, Reference, Requests};
 use reference::{Response, Row, Stamp};
 
-use crate::cells::{Cells, Places};
-use crate::convert;
+use crate::cells::Places;
 use crate::headers::{same_octets, same_size};
+use crate::images;
 use crate::laid;
 use crate::library;
 use crate::octets::ROOM;
@@ -28,7 +28,7 @@ struct Base {
     record: RecordOctets,
     count: u64,
     block: u32,
-    table: Table,
+    table: TableOctets,
     plain: Board,
 }
 
@@ -102,8 +102,7 @@ fn base(to: [Option<Vec<Address>>; 2], blocks: usize, last: Block) -> Base {
         count += u64::from(size);
     }
     let plain = answered();
-    let mut table = Table::ZERO;
-    convert::table(&plain, &mut table, 0);
+    let table = laid::table_alone(&plain);
     Base { record: laid::alone(&header), count, block: blocks as u32, table, plain }
 }
 
@@ -150,16 +149,21 @@ fn expected(base: &Base, record: &RecordOctets) -> Expected {
     }
 }
 
+fn image(base: &Base, after: &Board) -> TableOctets {
+    images::after(&base.table, &base.plain, after)
+}
+
 fn compare(base: &Base, record: &RecordOctets, due: &Expected) -> Result<(), String> {
     let (count, before) = (base.count as usize, *record);
     let mut out = vec![PATTERN; ROOM];
     same_size("check", due.check, library::check(record, count)?)?;
     same_size("write", due.write, library::write(record, count, &mut out)?)?;
     same_octets("write", &due.out, &out)?;
-    let posted = library::post(&base.table, record, base.block, count)?;
-    same_table(due.post.0, &due.post.1, &base.table, &posted)?;
-    let settled = library::receipt(&base.table, record, base.block, count)?;
-    same_table(due.receipt.0, &due.receipt.1, &base.table, &settled)?;
+    let (mut posted, mut settled) = (base.table, base.table);
+    let got = library::post(&mut posted, record, base.block, count)?;
+    same_table(due.post.0, &image(base, &due.post.1), got, &posted)?;
+    let got = library::receipt(&mut settled, record, base.block, count)?;
+    same_table(due.receipt.0, &image(base, &due.receipt.1), got, &settled)?;
     if *record == before {
         return Ok(());
     }
@@ -188,7 +192,7 @@ fn compare_flag(offset: usize) -> Result<(), String> {
 
 /// How many flags were tried.
 pub fn compare_all() -> Result<usize, String> {
-    let flags = Places::of_a_record().flags;
+    let flags = Places::of::<pruvelaccio::Header>().flags;
     for offset in &flags {
         let told = |text| format!("the flag at offset {offset}: {text}");
         caught(|| compare_flag(*offset)).map_err(told)?;

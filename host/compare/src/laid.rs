@@ -1,11 +1,12 @@
-//! From the second program's record to a record's octets, by the rules of the layout alone. Only the octets of used
-//! cells are written: what stands in the others, and between the cells, is up to the caller (zeros for what a reading
-//! fills, rubbish for a question). The record's lists and texts have to fit their arrays.
+//! From the second program's records and tables to octets, by the rules of the layout alone. Only the octets of used
+//! cells are written: what stands in the others, and between the cells, is up to the caller (zeros for what the library
+//! fills, rubbish for a question). A list or text longer than its array is held as its count, with entries up to the
+//! array's end; `stretch` is added to such a count, which is too large with and without it.
 
 use std::mem::{offset_of, size_of};
 
 use pruvelaccio as product;
-use pruvelaccio::RecordOctets;
+use pruvelaccio::{KeyOctets, RecordOctets, TableOctets};
 use reference as plain;
 
 /// The octets from a field of a struct on; `$s` begins at the struct.
@@ -30,29 +31,42 @@ fn number(from: Option<u32>, s: &mut [u8]) {
     }
 }
 
-/// The entries one behind the other, `size` octets apart.
-fn list<T>(from: &[T], s: &mut [u8], size: usize, lay: fn(&T, &mut [u8])) {
-    from.iter().zip(s.chunks_mut(size)).for_each(|(entry, s)| lay(entry, s));
+/// The entries one behind the other, `size` octets apart, as many as the array holds.
+fn list<T>(from: &[T], s: &mut [u8], (held, size): (usize, usize), lay: impl Fn(&T, &mut [u8])) {
+    from.iter().take(held).zip(s.chunks_mut(size)).for_each(|(entry, s)| lay(entry, s));
 }
 
-fn optional_text(from: &Option<Vec<u8>>, s: &mut [u8]) {
+fn count(length: usize, held: usize, stretch: u32, s: &mut [u8]) {
+    let stretch = if length > held { stretch } else { 0 };
+    word((length as u32).saturating_add(stretch), s);
+}
+
+fn stretched_text(from: &Option<Vec<u8>>, s: &mut [u8], stretch: u32) {
     flag(from.is_some(), from!(s, OptionalText, present));
     if let Some(characters) = from {
-        list(characters, from!(s, OptionalText, text.chars), 1, |c, s| s[0] = *c);
-        word(characters.len() as u32, from!(s, OptionalText, text.len));
+        list(characters, from!(s, OptionalText, text.chars), (64, 1), |c, s| s[0] = *c);
+        count(characters.len(), 64, stretch, from!(s, OptionalText, text.len));
     }
 }
 
-fn address(from: &plain::Address, s: &mut [u8]) {
+fn stretched_address(from: &plain::Address, s: &mut [u8], stretch: u32) {
     number(from.urn, from!(s, Address, urn));
-    optional_text(&from.name, from!(s, Address, name));
+    stretched_text(&from.name, from!(s, Address, name), stretch);
+}
+
+fn optional_text(from: &Option<Vec<u8>>, s: &mut [u8]) {
+    stretched_text(from, s, 0);
+}
+
+fn address(from: &plain::Address, s: &mut [u8]) {
+    stretched_address(from, s, 0);
 }
 
 fn addresses(from: &Option<Vec<plain::Address>>, s: &mut [u8]) {
     flag(from.is_some(), from!(s, OptionalAddresses, present));
     if let Some(entries) = from {
-        let size = size_of::<product::Address>();
-        list(entries, from!(s, OptionalAddresses, addresses.list), size, address);
+        let shape = (16, size_of::<product::Address>());
+        list(entries, from!(s, OptionalAddresses, addresses.list), shape, address);
         word(entries.len() as u32, from!(s, OptionalAddresses, addresses.count));
     }
 }
@@ -80,6 +94,12 @@ fn identity(from: &Option<plain::Identity>, s: &mut [u8]) {
     }
 }
 
+fn requests(from: &plain::Requests, s: &mut [u8]) {
+    flag(from.machine, from!(s, Requests, machine));
+    flag(from.acknowledge, from!(s, Requests, acknowledge));
+    flag(from.reply, from!(s, Requests, reply));
+}
+
 fn times(from: &plain::Block, s: &mut [u8]) {
     flag(from.stamp.is_some(), from!(s, Times, origin.present));
     if let Some(g5) = &from.stamp {
@@ -91,9 +111,7 @@ fn times(from: &plain::Block, s: &mut [u8]) {
     }
     flag(from.requests.is_some(), from!(s, Times, requests.present));
     if let Some(g7) = &from.requests {
-        flag(g7.machine, from!(s, Times, requests.requests.machine));
-        flag(g7.acknowledge, from!(s, Times, requests.requests.acknowledge));
-        flag(g7.reply, from!(s, Times, requests.requests.reply));
+        requests(g7, from!(s, Times, requests.requests));
     }
 }
 
@@ -117,8 +135,8 @@ fn reference(from: &plain::Reference, s: &mut [u8]) {
 fn references(from: &Option<Vec<plain::Reference>>, s: &mut [u8]) {
     flag(from.is_some(), from!(s, OptionalReferences, present));
     if let Some(entries) = from {
-        let size = size_of::<product::Reference>();
-        list(entries, from!(s, OptionalReferences, references.list), size, reference);
+        let shape = (4, size_of::<product::Reference>());
+        list(entries, from!(s, OptionalReferences, references.list), shape, reference);
         word(entries.len() as u32, from!(s, OptionalReferences, references.count));
     }
 }
@@ -151,7 +169,7 @@ pub fn over(from: &plain::Header, record: &mut RecordOctets) {
     addresses(&from.recipients, from!(s, Header, front.recipients));
     addresses(&from.information, from!(s, Header, front.information));
     flag(from.sized, from!(s, Header, sized));
-    list(&from.blocks, from!(s, Header, blocks.list), size_of::<product::Block>(), block);
+    list(&from.blocks, from!(s, Header, blocks.list), (16, size_of::<product::Block>()), block);
     word(from.blocks.len() as u32, from!(s, Header, blocks.count));
 }
 
@@ -160,4 +178,62 @@ pub fn alone(from: &plain::Header) -> RecordOctets {
     let mut record = RecordOctets::zero();
     over(from, &mut record);
     record
+}
+
+// ---------------------------------------------------------------------------
+// The table
+
+fn stretched_key(from: &plain::Key, s: &mut [u8], stretch: u32) {
+    stretched_address(&from.address, from!(s, Key, address), stretch);
+    stamp(&from.stamp, from!(s, Key, stamp));
+}
+
+fn recipient(from: &plain::Recipient, s: &mut [u8], stretch: u32) {
+    stretched_address(&from.address, from!(s, Recipient, address), stretch);
+    codes(from, s);
+}
+
+fn stretched_row(from: &plain::Row, s: &mut [u8], stretch: u32) {
+    stretched_key(&from.key, from!(s, Row, key), stretch);
+    requests(&from.asked, from!(s, Row, asked));
+    let shape = (16, size_of::<product::Recipient>());
+    list(&from.recipients, from!(s, Row, recipients), shape, |r, s| recipient(r, s, stretch));
+    count(from.recipients.len(), 16, stretch, from!(s, Row, count));
+}
+
+/// Lays a key over the octets that are there.
+pub fn key(from: &plain::Key, key: &mut KeyOctets, stretch: u32) {
+    stretched_key(from, key.octets_mut(), stretch);
+}
+
+/// Lays a row, which fits, over the octets of its place.
+pub fn row(from: &plain::Row, s: &mut [u8]) {
+    stretched_row(from, s, 0);
+}
+
+/// Lays the codes of a recipient over the octets of its place.
+pub fn codes(from: &plain::Recipient, s: &mut [u8]) {
+    word(from.machine, from!(s, Recipient, machine));
+    word(from.acknowledge, from!(s, Recipient, acknowledge));
+    word(from.reply, from!(s, Recipient, reply));
+}
+
+/// The count of a table's rows.
+pub fn rows(count: usize, table: &mut TableOctets) {
+    word(count as u32, from!(table.octets_mut(), Table, count));
+}
+
+/// Lays a table over the octets that are there.
+pub fn table(from: &plain::Board, table: &mut TableOctets, stretch: u32) {
+    let s = &mut table.octets_mut()[..];
+    let shape = (32, size_of::<product::Row>());
+    list(&from.rows, from!(s, Table, rows), shape, |row, s| stretched_row(row, s, stretch));
+    count(from.rows.len(), 32, stretch, from!(s, Table, count));
+}
+
+/// A table's octets with 0 in unused cells, in unused rows and between the cells.
+pub fn table_alone(from: &plain::Board) -> TableOctets {
+    let mut octets = TableOctets::zero();
+    table(from, &mut octets, 0);
+    octets
 }

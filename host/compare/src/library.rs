@@ -1,10 +1,9 @@
 //! The proved library, asked twice each time: by the exported function itself and through the safe wrapper. The wrapper
-//! leaves out what stands beside a refusal (length 0, the table as it came), so what is compared are the function's own
-//! answers; here the wrapper is held against them. The exported function gets the caller's own memory, the wrapper
-//! copies of it.
+//! leaves out what stands beside a refusal (length 0), so what is compared are the function's own answers; here the
+//! wrapper is held against them. The exported function gets the caller's own memory, the wrapper copies of it.
 
-use pruvelaccio::raw::{self, SizeAnswer, TableAnswer};
-use pruvelaccio::{Header, Key, RecordOctets, Refusal, Table, RECORD};
+use pruvelaccio::raw::{self, Answer, SizeAnswer};
+use pruvelaccio::{Header, KeyOctets, RecordOctets, Refusal, Table, TableOctets, RECORD};
 
 use crate::cells::Cells;
 
@@ -28,8 +27,8 @@ pub trait Lent {
     fn pointer(&self) -> *const [u8; RECORD];
     fn check(&self, count: usize) -> Result<usize, Refusal>;
     fn write(&self, count: usize, out: &mut [u8]) -> Result<usize, Refusal>;
-    fn post(&self, table: &mut Table, number: u32, count: usize) -> Result<(), Refusal>;
-    fn receipt(&self, table: &mut Table, number: u32, count: usize) -> Result<(), Refusal>;
+    fn post(&self, table: &mut TableOctets, number: u32, count: usize) -> Result<(), Refusal>;
+    fn receipt(&self, table: &mut TableOctets, number: u32, count: usize) -> Result<(), Refusal>;
 }
 
 impl Lent for Header {
@@ -45,11 +44,11 @@ impl Lent for Header {
         pruvelaccio::write(self, count, out)
     }
 
-    fn post(&self, table: &mut Table, number: u32, count: usize) -> Result<(), Refusal> {
+    fn post(&self, table: &mut TableOctets, number: u32, count: usize) -> Result<(), Refusal> {
         table.post(self, number, count)
     }
 
-    fn receipt(&self, table: &mut Table, number: u32, count: usize) -> Result<(), Refusal> {
+    fn receipt(&self, table: &mut TableOctets, number: u32, count: usize) -> Result<(), Refusal> {
         table.receipt(self, number, count)
     }
 }
@@ -67,11 +66,11 @@ impl Lent for RecordOctets {
         pruvelaccio::write_octets(self, count, out)
     }
 
-    fn post(&self, table: &mut Table, number: u32, count: usize) -> Result<(), Refusal> {
+    fn post(&self, table: &mut TableOctets, number: u32, count: usize) -> Result<(), Refusal> {
         table.post_octets(self, number, count)
     }
 
-    fn receipt(&self, table: &mut Table, number: u32, count: usize) -> Result<(), Refusal> {
+    fn receipt(&self, table: &mut TableOctets, number: u32, count: usize) -> Result<(), Refusal> {
         table.receipt_octets(self, number, count)
     }
 }
@@ -121,51 +120,89 @@ pub fn write(record: &impl Lent, count: usize, out: &mut [u8]) -> Result<SizeAns
     Ok(own)
 }
 
-pub fn empty() -> Result<Table, String> {
-    // SAFETY: no argument.
-    let own = unsafe { raw::pruvelaccio_empty_value() };
-    agree("empty", own.difference(&Table::empty()), None)?;
-    Ok(own)
+/// Makes a table empty, whatever it was.
+pub fn empty(table: &mut TableOctets) -> Result<(), String> {
+    // SAFETY: the pointer is that of a whole table, lent for this call alone.
+    unsafe { raw::pruvelaccio_empty_octets(table.octets_mut()) };
+    agree("empty", &*table, &TableOctets::empty())?;
+    agree("empty", &*table, &TableOctets::from(&Table::empty()))
 }
 
+/// The wrapper's answer, and what it made of its own copy of the table.
 fn changed(
     call: &str,
-    before: &Table,
-    own: TableAnswer,
-    wrapper: impl FnOnce(&mut Table) -> Result<(), Refusal>,
-) -> Result<TableAnswer, String> {
-    let mut table = *before;
-    let told = wrapper(&mut table);
+    (own, table): (Answer, &TableOctets),
+    (told, second): (Result<(), Refusal>, &TableOctets),
+) -> Result<Answer, String> {
     agree(call, refusal(own.number, own.place, ()), told)?;
-    let expected = if own.number == 0 { &own.table } else { before };
-    agree(call, expected.difference(&table), None)?;
+    agree(call, table, second)?;
     Ok(own)
 }
 
-pub fn post(t: &Table, h: &impl Lent, number: u32, count: usize) -> Result<TableAnswer, String> {
-    // SAFETY: as in `check`; every table is a valid argument, and it goes by value.
-    let own = unsafe { raw::pruvelaccio_post_value(*t, h.pointer(), number, count) };
-    changed("post", t, own, |table| h.post(table, number, count))
+pub fn post(
+    table: &mut TableOctets,
+    h: &impl Lent,
+    number: u32,
+    count: usize,
+) -> Result<Answer, String> {
+    let mut second = *table;
+    let pointer = table.octets_mut();
+    // SAFETY: as in `check`; the pointer is that of a whole table, lent for this call alone.
+    let own = unsafe { raw::pruvelaccio_post_octets(pointer, h.pointer(), number, count) };
+    let told = h.post(&mut second, number, count);
+    changed("post", (own, table), (told, &second))
 }
 
-pub fn receipt(t: &Table, h: &impl Lent, number: u32, count: usize) -> Result<TableAnswer, String> {
+pub fn receipt(
+    table: &mut TableOctets,
+    h: &impl Lent,
+    number: u32,
+    count: usize,
+) -> Result<Answer, String> {
+    let mut second = *table;
+    let pointer = table.octets_mut();
     // SAFETY: as in `post`.
-    let own = unsafe { raw::pruvelaccio_receipt_value(*t, h.pointer(), number, count) };
-    changed("receipt", t, own, |table| h.receipt(table, number, count))
+    let own = unsafe { raw::pruvelaccio_receipt_octets(pointer, h.pointer(), number, count) };
+    let told = h.receipt(&mut second, number, count);
+    changed("receipt", (own, table), (told, &second))
 }
 
-pub fn release(t: &Table, key: &Key) -> Result<TableAnswer, String> {
-    // SAFETY: every struct is a valid argument; they go by value.
-    let own = unsafe { raw::pruvelaccio_release_value(*t, *key) };
-    changed("release", t, own, |table| table.release(key))
+pub fn release(table: &mut TableOctets, key: &KeyOctets) -> Result<Answer, String> {
+    let mut second = *table;
+    let pointer = table.octets_mut();
+    // SAFETY: as in `post`; the pointer is that of a whole key, and any octets are some key.
+    let own = unsafe { raw::pruvelaccio_release_octets(pointer, key.octets()) };
+    let told = second.release_octets(key);
+    changed("release", (own, table), (told, &second))
 }
 
-pub fn list_row(t: &Table, number: u32, out: &mut [u8]) -> Result<SizeAnswer, String> {
+pub fn list_row(t: &TableOctets, number: u32, out: &mut [u8]) -> Result<SizeAnswer, String> {
     let mut second = out.to_vec();
-    // SAFETY: as in `write` and `release`.
-    let own = unsafe { raw::pruvelaccio_list_row_value(*t, number, out.as_mut_ptr(), out.len()) };
+    let (pointer, room) = (out.as_mut_ptr(), out.len());
+    // SAFETY: as in `write`; the pointer is that of a whole table, which the call only reads.
+    let own = unsafe { raw::pruvelaccio_list_row_octets(t.octets(), number, pointer, room) };
     let told = refusal(own.number, own.place, own.length);
     agree("list_row", told, t.list_row(number, &mut second))?;
     agree("list_row", &*out, &second)?;
     Ok(own)
+}
+
+/// The wrapper for a table as a struct, held against what was answered and left for the same table as octets.
+pub fn same_struct(
+    call: &str,
+    before: &TableOctets,
+    (own, after): (Answer, &TableOctets),
+    wrapper: impl FnOnce(&mut Table) -> Result<(), Refusal>,
+) -> Result<(), String> {
+    let mut table = Table::from(before);
+    let told = wrapper(&mut table);
+    agree(call, refusal(own.number, own.place, ()), told)?;
+    agree(call, Table::from(after).difference(&table), None)
+}
+
+/// The same for a row of the listing.
+pub fn same_struct_row(t: &TableOctets, number: u32, room: usize) -> Result<(), String> {
+    let (mut one, mut two) = (vec![0xA5; room], vec![0xA5; room]);
+    agree("list_row", t.list_row(number, &mut one), Table::from(t).list_row(number, &mut two))?;
+    agree("list_row", one, two)
 }

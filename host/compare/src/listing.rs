@@ -42,6 +42,9 @@ fn list(run: &mut Run, pair: &Pair, number: u32, room: usize) -> Result<(), Stri
     let lent = GUARD..GUARD + room;
     let plain = reference::list_row(&pair.plain, number, &mut other[lent.clone()]);
     let got = library::list_row(&pair.table, number, &mut own[lent])?;
+    if run.random.one_in(32) {
+        library::same_struct_row(&pair.table, number, room)?;
+    }
     run.tally.note(Kind::ListRow, plain.err().unwrap_or(0))?;
     same_size("list_row", plain, got)?;
     same_octets("list_row", &other, &own)

@@ -1,17 +1,20 @@
 //! Lays the proved library and the program `pending_list` beside the second program, `host/reference`, on many
-//! inputs in both directions: records as structs and as whole octets of any kind, datagrams, lists of calls. Ends with
-//! status 1 at the first difference, or if a refusal came up too seldom.
+//! inputs in both directions: records as structs and as whole octets of any kind, datagrams, lists of calls, tables as
+//! whole octets of any kind. Ends with status 1 at the first difference, or if a refusal came up too seldom.
 
 mod any_octets;
+mod any_tables;
 mod cells;
 mod convert;
 mod damage;
 mod datagrams;
+mod each_octet;
 mod emit;
 mod fenced;
 mod flags;
 mod headers;
 mod illformed;
+mod images;
 mod laid;
 mod library;
 mod listing;
@@ -24,9 +27,11 @@ mod records;
 mod rubbish;
 mod run;
 mod selfcheck;
+mod table_octets;
 mod tables;
 mod taken;
 mod tally;
+mod threads;
 mod wholes;
 
 use std::process::ExitCode;
@@ -41,15 +46,15 @@ const INPUTS: u64 = 200_000;
 /// Inputs of `pending_list` for each seed.
 const PROGRAMS: u64 = 250;
 
-/// One whole record of octets for so many other inputs.
+/// One whole record of octets, and one whole table, for so many other inputs.
 const OCTETS_SHARE: u64 = 2;
 
-/// Octets of stack for a seed's thread: tables go by value.
+/// Octets of stack for a thread: here tables are copied from hand to hand.
 const STACK: usize = 8 << 20;
 
 const USAGE: &str = "usage: compare [--seed N] [--inputs N]
   --seed N    one run with this seed, instead of a fixed one and one from the clock
-  --inputs N  records, datagrams and calls for each seed (200000), and half as many whole records of octets";
+  --inputs N  records, datagrams and calls for each seed (200000), and half as many whole records and tables of octets";
 
 struct Options {
     seeds: Vec<u64>,
@@ -77,7 +82,9 @@ fn options() -> Option<Options> {
 /// All comparisons with one seed. Gives back the counts.
 fn compare_with(seed: u64, inputs: u64) -> Result<Tally, String> {
     let octets = inputs / OCTETS_SHARE;
-    let others = format!("{octets} records of octets, {PROGRAMS} inputs of pending_list");
+    let others = format!(
+        "{octets} records and {octets} tables of octets, {PROGRAMS} inputs of pending_list"
+    );
     println!("seed {seed}: {inputs} inputs, {others} (again: --seed {seed})");
     let mut run = Run::new(seed, Tally::new());
     let mut play = || {
@@ -86,6 +93,7 @@ fn compare_with(seed: u64, inputs: u64) -> Result<Tally, String> {
             program::compare(&mut run, &input, None)?;
         }
         run.play_octets(octets)?;
+        run.play_tables(octets)?;
         run.play(inputs)
     };
     play().map_err(|text: String| format!("seed {seed}: {text}"))?;
@@ -108,6 +116,22 @@ fn compare_all(options: &Options, mut tally: Tally) -> Result<Tally, String> {
     })
 }
 
+/// What is tried once, whatever the seeds are: every octet of a table, every octet in a flag, several threads.
+fn compare_once() -> Result<(), String> {
+    println!("flags: every octet in each of {} flags of a record", flags::compare_all()?);
+    let each_octet::Changes { tried, done } = each_octet::compare_flags(FIXED_SEED)?;
+    println!(
+        "flags: {tried} changes of a row's and a key's, after {done} of them all four calls done"
+    );
+    let each_octet::Changes { tried, done } = each_octet::compare_octets(FIXED_SEED)?;
+    println!(
+        "octets: {tried} changes of one octet of a table, after {done} of them all four calls done"
+    );
+    let (threads, calls) = threads::compare(FIXED_SEED, STACK)?;
+    println!("threads: {threads} at once, {calls} calls, each on a table of its own");
+    Ok(())
+}
+
 fn compare(options: &Options) -> Result<Tally, String> {
     if !program::path().is_file() {
         let path = program::path();
@@ -117,7 +141,7 @@ fn compare(options: &Options) -> Result<Tally, String> {
         ));
     }
     println!("self-check: {} damaged answers, each reported", selfcheck::run()?);
-    println!("flags: every octet in each of {} flags of a record", flags::compare_all()?);
+    compare_once()?;
     let mut run = Run::new(FIXED_SEED, Tally::new());
     program_cases::compare_named(&mut run)?;
     println!("named inputs of pending_list: {}", run.tally.programs);
@@ -156,7 +180,7 @@ fn main() -> ExitCode {
             let parts =
                 format!("{} records, {} datagrams, {} calls", t.records, t.datagrams, t.calls);
             let others = format!("{} listing rows, {} inputs of pending_list", t.rows, t.programs);
-            let octets = format!("{} records of octets", t.octets);
+            let octets = format!("{} records and {} tables of octets", t.octets, t.tables);
             println!(
                 "compare: {inputs} inputs ({parts}), {octets}, {others}, no difference, {seconds:.1} s"
             );

@@ -1,13 +1,14 @@
 //! Whole records of octets laid before both programs: the library gets the octets as they are, the second program what
 //! they hold by the rules of the layout. The record stands between fences and cannot be stored to.
 
-use pruvelaccio::raw::TableAnswer;
-use pruvelaccio::{RecordOctets, Table};
+use pruvelaccio::raw::Answer;
+use pruvelaccio::{RecordOctets, TableOctets};
 use reference::{Board, Header};
 
 use crate::any_octets::{self, Lending};
 use crate::headers::{same_octets, same_size};
 use crate::illformed;
+use crate::images;
 use crate::library;
 use crate::pool::{self, Pool};
 use crate::random::Random;
@@ -21,9 +22,9 @@ pub const ROOM: usize = 8192;
 
 /// Tables made of one pool, for a number of records.
 pub struct Scene {
-    pool: Pool,
-    good: Vec<Pair>,
-    full: Pair,
+    pub pool: Pool,
+    pub good: Vec<Pair>,
+    pub full: Pair,
     ill_formed: Pair,
 }
 
@@ -131,7 +132,7 @@ fn compare_write(
 struct OnTable {
     kind: Kind,
     plain: fn(&mut Board, &Header, u32, u64) -> u32,
-    proved: fn(&Table, &RecordOctets, u32, usize) -> Result<TableAnswer, String>,
+    proved: fn(&mut TableOctets, &RecordOctets, u32, usize) -> Result<Answer, String>,
 }
 
 const POST: OnTable =
@@ -150,7 +151,8 @@ fn compare_on_table(
     let Lending { count, block, .. } = *lending;
     let mut plain = pair.plain.clone();
     let number = (call.plain)(&mut plain, header, block, count);
-    let got = (call.proved)(&pair.table, record, block, count as usize)?;
-    same_table(number, &plain, &pair.table, &got)?;
+    let mut table = pair.table;
+    let got = (call.proved)(&mut table, record, block, count as usize)?;
+    same_table(number, &images::after(&pair.table, &pair.plain, &plain), got, &table)?;
     run.tally.note(call.kind, number)
 }

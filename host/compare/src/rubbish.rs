@@ -1,19 +1,21 @@
-//! Structs whose cells hold anything, and records whose octets do. A record is laid over one of them, so that every
-//! cell it does not use is rubbish when the product is asked. Filling them costs much, so a stock is made once and
-//! copied.
+//! Structs whose cells hold anything, and octets that do. A record, a table or a key is laid over one of them, so that
+//! every cell it does not use is rubbish when the product is asked. Filling them costs much, so a stock is made once
+//! and copied.
 
-use pruvelaccio::{Header, Key, RecordOctets, Table, RECORD};
+use pruvelaccio::{Header, Key, KeyOctets, RecordOctets, Table, TableOctets, KEY, RECORD, TABLE};
 
-use crate::cells::{Cell, Cells};
+use crate::cells::{Cell, Cells, Places};
 use crate::convert;
+use crate::laid;
 use crate::random::Random;
 use crate::records::Case;
 
 pub struct Rubbish {
     octets: Vec<RecordOctets>,
     headers: Vec<Header>,
-    tables: Vec<Table>,
-    keys: Vec<Key>,
+    tables: Vec<TableOctets>,
+    keys: Vec<KeyOctets>,
+    places: Places,
 }
 
 /// Flags stay 0 or 1: no other octet is a flag in Rust.
@@ -45,18 +47,58 @@ fn stretch(random: &mut Random) -> u32 {
     }
 }
 
+fn any<const N: usize>(random: &mut Random) -> [u8; N] {
+    random.octets(N).try_into().expect("as many")
+}
+
 pub fn any_octets(random: &mut Random) -> RecordOctets {
-    let octets = random.octets(RECORD);
-    RecordOctets::from(<[u8; RECORD]>::try_from(octets).expect("as many"))
+    RecordOctets::from(any::<RECORD>(random))
+}
+
+pub fn any_table(random: &mut Random) -> TableOctets {
+    TableOctets::from(any::<TABLE>(random))
+}
+
+pub fn any_key(random: &mut Random) -> KeyOctets {
+    KeyOctets::from(any::<KEY>(random))
+}
+
+/// Any octets, but for numbers like those above.
+fn fill_octets<const N: usize>(places: &Places, random: &mut Random) -> [u8; N] {
+    let mut octets = any(random);
+    for at in &places.numbers {
+        octets[*at..at + 4].copy_from_slice(&any_number(random).to_le_bytes());
+    }
+    octets
+}
+
+/// Any octet but 0, and often 1.
+pub fn set(random: &mut Random) -> u8 {
+    if random.coin() {
+        1
+    } else {
+        1 + random.below(255) as u8
+    }
+}
+
+/// Every flag that is 1 may be any octet but 0.
+pub fn loosen(octets: &mut [u8], places: &Places, random: &mut Random) {
+    for at in &places.flags {
+        if octets[*at] == 1 {
+            octets[*at] = set(random);
+        }
+    }
 }
 
 impl Rubbish {
     pub fn new(random: &mut Random) -> Rubbish {
+        let (places, of_key) = (Places::of::<Table>(), Places::of::<Key>());
         Rubbish {
             octets: (0..24).map(|_| any_octets(random)).collect(),
             headers: (0..24).map(|_| fill(random)).collect(),
-            tables: (0..8).map(|_| fill(random)).collect(),
-            keys: (0..64).map(|_| fill(random)).collect(),
+            tables: (0..8).map(|_| fill_octets(&places, random).into()).collect(),
+            keys: (0..64).map(|_| fill_octets::<KEY>(&of_key, random).into()).collect(),
+            places,
         }
     }
 
@@ -70,15 +112,19 @@ impl Rubbish {
         header
     }
 
-    pub fn table(&self, rows: &reference::Board, random: &mut Random) -> Table {
+    /// Half of the tables have flags other than 1.
+    pub fn table(&self, rows: &reference::Board, random: &mut Random) -> TableOctets {
         let mut table = *random.pick(&self.tables);
-        convert::table(rows, &mut table, stretch(random));
+        laid::table(rows, &mut table, stretch(random));
+        if random.coin() {
+            loosen(table.octets_mut(), &self.places, random);
+        }
         table
     }
 
-    pub fn key(&self, from: &reference::Key, random: &mut Random) -> Key {
+    pub fn key(&self, from: &reference::Key, random: &mut Random) -> KeyOctets {
         let mut key = *random.pick(&self.keys);
-        convert::key(from, &mut key, stretch(random));
+        laid::key(from, &mut key, stretch(random));
         key
     }
 }

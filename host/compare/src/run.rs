@@ -3,7 +3,7 @@
 use std::any::Any;
 use std::panic::{catch_unwind, AssertUnwindSafe};
 
-use pruvelaccio::{RecordOctets, RECORD};
+use pruvelaccio::{Header, KeyOctets, RecordOctets, Table, TableOctets, KEY, RECORD, TABLE};
 
 use crate::cells::Places;
 use crate::damage::{self, Damage};
@@ -16,6 +16,7 @@ use crate::octets::{self, Scene};
 use crate::random::Random;
 use crate::records::{self, Case};
 use crate::rubbish::Rubbish;
+use crate::table_octets;
 use crate::tables;
 use crate::tally::Tally;
 
@@ -29,17 +30,20 @@ pub fn caught<T>(work: impl FnOnce() -> Result<T, String>) -> Result<T, String> 
     catch_unwind(AssertUnwindSafe(work)).unwrap_or_else(stopped)
 }
 
-/// Where a datagram, a record and an output are lent.
+/// Where a datagram, a record, a table, a key and an output are lent.
 pub struct Fences {
     pub datagram: Fenced,
     pub record: Fenced,
+    pub table: Fenced,
+    pub key: Fenced,
     pub out: Fenced,
 }
 
 impl Fences {
     pub fn new() -> Fences {
-        let [datagram, record, out] = [fenced::LARGEST, RECORD, octets::ROOM].map(Fenced::new);
-        Fences { datagram, record, out }
+        let sizes = [fenced::LARGEST, RECORD, TABLE, KEY, octets::ROOM];
+        let [datagram, record, table, key, out] = sizes.map(Fenced::new);
+        Fences { datagram, record, table, key, out }
     }
 }
 
@@ -60,11 +64,27 @@ pub fn as_record_mut(lent: &mut [u8]) -> &mut RecordOctets {
     RecordOctets::lent_mut(lent.try_into().expect("a record's octets"))
 }
 
+/// The table, and the key, that were put between fences.
+pub fn as_table(lent: &[u8]) -> &TableOctets {
+    TableOctets::lent(lent.try_into().expect("a table's octets"))
+}
+
+pub fn as_table_mut(lent: &mut [u8]) -> &mut TableOctets {
+    TableOctets::lent_mut(lent.try_into().expect("a table's octets"))
+}
+
+pub fn as_key(lent: &[u8]) -> &KeyOctets {
+    KeyOctets::lent(lent.try_into().expect("a key's octets"))
+}
+
 pub struct Run {
     pub random: Random,
     pub rubbish: Rubbish,
     pub damages: Vec<Damage>,
+    /// Of a record.
     pub places: Places,
+    /// Of a table.
+    pub table_places: Places,
     pub fences: Fences,
     pub tally: Tally,
 }
@@ -73,8 +93,9 @@ impl Run {
     pub fn new(seed: u64, tally: Tally) -> Run {
         let mut random = Random::new(seed);
         let rubbish = Rubbish::new(&mut random);
-        let (places, fences) = (Places::of_a_record(), Fences::new());
-        Run { random, rubbish, damages: damage::all(), places, fences, tally }
+        let (places, table_places) = (Places::of::<Header>(), Places::of::<Table>());
+        let (damages, fences) = (damage::all(), Fences::new());
+        Run { random, rubbish, damages, places, table_places, fences, tally }
     }
 
     /// Turns until so many inputs more were compared.
@@ -96,6 +117,18 @@ impl Run {
                 scene = Scene::new(self);
             }
             octets::compare_turn(self, &scene, turn)?;
+        }
+        Ok(())
+    }
+
+    /// So many whole tables of octets, likewise.
+    pub fn play_tables(&mut self, tables: u64) -> Result<(), String> {
+        let mut scene = Scene::new(self);
+        for turn in 0..tables {
+            if turn % 64 == 63 {
+                scene = Scene::new(self);
+            }
+            table_octets::compare_turn(self, &scene, turn)?;
         }
         Ok(())
     }

@@ -1,16 +1,15 @@
 //! Whether the comparison can fail at all: answers that were damaged on purpose have to be reported, and those left
 //! alone must not be.
 
-use std::mem::offset_of;
+use std::mem::{offset_of, size_of};
 
-use pruvelaccio::raw::{SizeAnswer, TableAnswer};
-use pruvelaccio::{Header, RecordOctets, Table};
+use pruvelaccio::raw::{Answer, SizeAnswer};
+use pruvelaccio::{Header, RecordOctets, TableOctets, TABLE};
 use reference::Board;
 
-use crate::cells::Cells;
-use crate::convert;
 use crate::fenced::{Fenced, Side};
 use crate::headers::{same_octets, same_reading, same_size};
+use crate::images;
 use crate::laid;
 use crate::pool::{self, Pool};
 use crate::program::same_output;
@@ -24,7 +23,7 @@ const DATAGRAM: [u8; 17] =
 
 /// How many damaged answers were tried; an error names one that passed.
 pub fn run() -> Result<usize, String> {
-    let tried = [readings(), refused_readings(), sizes(), tables(), fences(), counts()];
+    let tried = [readings(), refused_readings(), sizes(), tables(), images(), fences(), counts()];
     let mut damaged = 0;
     for (name, reported, outcome) in tried.into_iter().flatten() {
         if outcome.is_err() != reported {
@@ -133,38 +132,58 @@ fn sizes() -> Vec<Tried> {
     ]
 }
 
+/// The answer of a call on the table, and every octet after it: those of a cell, of an unused one, of an unused row,
+/// between the cells, the last.
 fn tables() -> Vec<Tried> {
     let mut random = Random::new(1);
     let pool = Pool::new(&mut random);
-    let plain: Board = pool::table(&pool, 32, &mut random);
-    let mut table = Table::ZERO;
-    convert::table(&plain, &mut table, 0);
-    let answer = |number| TableAnswer { number, place: 0, table };
-    let done = |change| same_table(0, &plain, &table, &with(&answer(0), change));
-    let refused = |change| same_table(26, &plain, &table, &with(&answer(26), change));
+    let plain: Board = pool::table(&pool, 31, &mut random);
+    let table = laid::table_alone(&plain);
+    let good = Answer { number: 26, place: 0 };
+    let of = |change| same_table(26, &table, with(&good, change), &table);
+    let at = |offset: usize| {
+        let mut after = table;
+        after.octets_mut()[offset] ^= 1;
+        same_table(26, &table, good, &after)
+    };
+    let row = size_of::<pruvelaccio::Row>();
+    let (key, asked) = (offset_of!(pruvelaccio::Row, key), offset_of!(pruvelaccio::Row, asked));
     vec![
-        ("a call", false, done(|_| {})),
-        (
-            "an unused cell",
-            false,
-            done(|a| a.table.rows[0].recipients[0].address.name.text.chars[63] ^= 1),
-        ),
-        ("a code", true, done(|a| a.table.rows[31].recipients[0].reply ^= 7)),
-        ("a key", true, done(|a| a.table.rows[7].key.stamp.dtg.date.day ^= 1)),
-        ("a request", true, done(|a| a.table.rows[7].asked.machine ^= true)),
-        ("a row less", true, done(|a| a.table.count = 31)),
-        ("a row more than there can be", true, done(|a| a.table.count = 33)),
-        ("rows exchanged", true, done(|a| a.table.rows.swap(0, 1))),
-        ("a refusal for done", true, done(|a| a.number = 22)),
-        ("a refused call", false, refused(|_| {})),
-        ("its place", true, refused(|a| a.place = 1)),
-        (
-            "an unused cell after it",
-            true,
-            refused(|a| a.table.rows[0].recipients[15].address.name.text.chars[63] ^= 1),
-        ),
-        ("a used cell after it", true, refused(|a| a.table.rows[31].recipients[0].machine ^= 1)),
+        ("a call", false, of(|_| {})),
+        ("its number", true, of(|a| a.number = 0)),
+        ("its place", true, of(|a| a.place = 1)),
+        ("a key", true, at(7 * row + key)),
+        ("a request", true, at(30 * row + asked)),
+        ("an octet between the cells", true, at(asked + 3)),
+        ("an unused row", true, at(31 * row)),
+        ("the count", true, at(offset_of!(pruvelaccio::Table, count))),
+        ("the last octet", true, at(TABLE - 1)),
     ]
+}
+
+/// What a call leaves: images that are wrong in one thing have to differ from those that are right.
+fn images() -> Vec<Tried> {
+    let mut random = Random::new(2);
+    let pool = Pool::new(&mut random);
+    let plain: Board = pool::table(&pool, 8, &mut random);
+    let (mut less, mut settled) = (plain.clone(), plain.clone());
+    less.rows.remove(3);
+    settled.rows[5].recipients[0].reply ^= 7;
+    let alone = |board: &Board| laid::table_alone(board);
+    let leads =
+        |from: &Board, to: &Board| same_after(&images::after(&alone(from), from, to), &alone(to));
+    vec![
+        ("a release", false, leads(&plain, &less)),
+        ("a posting", false, leads(&less, &plain)),
+        ("a receipt", false, leads(&plain, &settled)),
+        ("a refusal", false, leads(&plain, &plain)),
+        ("a row too many", true, same_after(&alone(&plain), &alone(&less))),
+        ("a code too many", true, same_after(&alone(&plain), &alone(&settled))),
+    ]
+}
+
+fn same_after(expected: &TableOctets, after: &TableOctets) -> Result<(), String> {
+    same_table(0, expected, Answer { number: 0, place: 0 }, after)
 }
 
 fn counts() -> Vec<Tried> {
@@ -180,7 +199,9 @@ fn counts() -> Vec<Tried> {
 #[cfg(test)]
 mod tests {
     use super::*;
-    use crate::cells::Cell;
+    use crate::cells::{Cell, Cells, Places};
+    use crate::convert;
+    use pruvelaccio::{KeyOctets, Table};
 
     /// Changes the k-th cell; false behind the last one.
     fn change<T: Cells>(cells: &mut T, k: usize) -> bool {
@@ -232,7 +253,7 @@ mod tests {
         assert_eq!(stopped, Err("a panic: on purpose".to_string()));
     }
 
-    /// What is laid over rubbish comes back as it was.
+    /// What is laid over rubbish comes back as it was; and over zeros the octets are those of the wrapper's struct.
     #[test]
     fn tables_there_and_back() {
         let mut random = Random::new(2);
@@ -242,8 +263,36 @@ mod tests {
             let plain = pool::table(&pool, rows, &mut random);
             assert!(reference::well_formed(&plain));
             let table = rubbish.table(&plain, &mut random);
-            assert_eq!(convert::taken_table(&table), Some(plain));
+            assert_eq!(crate::taken::table(&table), plain);
+            let alone = laid::table_alone(&plain);
+            assert!(alone == TableOctets::from(&Table::from(&alone)));
         }
+    }
+
+    #[test]
+    fn keys_there_and_back() {
+        let mut random = Random::new(6);
+        let rubbish = crate::rubbish::Rubbish::new(&mut random);
+        let pool = Pool::new(&mut random);
+        for _ in 0..500 {
+            let plain = pool.key(&mut random);
+            assert_eq!(crate::taken::key(&rubbish.key(&plain, &mut random)), plain);
+            let mut alone = KeyOctets::zero();
+            laid::key(&plain, &mut alone, 0);
+            assert_eq!(crate::taken::key(&alone), plain);
+        }
+    }
+
+    /// A table with too many rows, or a row with too many recipients, is taken as one that is refused.
+    #[test]
+    fn tables_that_pass_their_arrays() {
+        let table = TableOctets::from([0x02; TABLE]);
+        assert_eq!(crate::taken::table(&table).rows.len(), 33);
+        let mut one = table;
+        laid::rows(1, &mut one);
+        let rows = crate::taken::table(&one).rows;
+        assert_eq!((rows.len(), rows[0].recipients.len()), (1, 17));
+        assert_eq!(rows[0].key.address.name.as_ref().map(Vec::len), Some(65));
     }
 
     /// What is laid into octets comes back as it was, over zeros and over rubbish; and over zeros the octets are those
@@ -277,13 +326,24 @@ mod tests {
         assert_eq!(block.file_name.as_ref().map(Vec::len), Some(65));
     }
 
-    #[test]
-    fn every_octet_of_a_record_is_of_one_cell_or_none() {
-        let places = crate::cells::Places::of_a_record();
-        let mut held = [0; pruvelaccio::RECORD];
+    fn each_octet_once(places: &Places, octets: usize) -> bool {
+        let mut held = vec![0; octets];
         places.flags.iter().chain(&places.characters).for_each(|at| held[*at] += 1);
         places.numbers.iter().for_each(|at| (*at..at + 4).for_each(|i| held[i] += 1));
-        assert!(held.iter().all(|times| *times <= 1));
+        held.iter().all(|times| *times <= 1)
+    }
+
+    #[test]
+    fn every_octet_of_a_table_is_of_one_cell_or_none() {
+        let places = Places::of::<Table>();
+        assert!(each_octet_once(&places, TABLE));
+        assert_eq!(places.flags.len(), 32 * 38);
+    }
+
+    #[test]
+    fn every_octet_of_a_record_is_of_one_cell_or_none() {
+        let places = Places::of::<Header>();
+        assert!(each_octet_once(&places, pruvelaccio::RECORD));
         assert_eq!(places.flags.len(), 7 + 32 * 2 + 16 * 31);
     }
 

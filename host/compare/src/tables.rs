@@ -1,18 +1,19 @@
 //! Lists of postings, receipts and releases, played to both programs side by side.
 
-use pruvelaccio::raw::TableAnswer;
-use pruvelaccio::Table;
+use pruvelaccio::raw::Answer;
+use pruvelaccio::{Header, Refusal, Table, TableOctets};
 use reference::{Board, Key};
 
-use crate::cells::Cells;
-use crate::convert;
 use crate::damage::{BAD_ADDRESSES, BAD_DTGS};
+use crate::images;
+use crate::laid;
 use crate::library;
 use crate::listing;
 use crate::pool::{self, Pool};
 use crate::random::Random;
 use crate::records::{self, Case};
 use crate::run::{caught, Run};
+use crate::taken;
 use crate::tally::Kind;
 
 #[derive(Clone, Debug)]
@@ -24,83 +25,169 @@ pub enum Call {
 
 /// The two tables that should be one.
 pub struct Pair {
-    pub table: Table,
+    pub table: TableOctets,
     pub plain: Board,
 }
 
-/// After a call that was done the used cells are the second program's; after a refusal every cell is as it was.
+/// The answer, and every octet of the table.
 pub fn same_table(
     number: u32,
-    plain: &Board,
-    before: &Table,
-    got: &TableAnswer,
+    expected: &TableOctets,
+    got: Answer,
+    after: &TableOctets,
 ) -> Result<(), String> {
     let own = (got.number, got.place);
     if own != (number, 0) {
         return Err(format!("the second program gives {number} at 0, the library {own:?}"));
     }
-    if number != 0 {
-        return match before.difference(&got.table) {
-            Some(cell) => Err(format!("refused with {number}, but changed: table{cell}")),
-            None => Ok(()),
-        };
+    if expected == after {
+        return Ok(());
     }
-    let taken = convert::taken_table(&got.table);
-    if taken.as_ref() == Some(plain) {
+    let at = expected.octets().iter().zip(after.octets()).position(|(a, b)| a != b);
+    let rows = (taken::table(expected), taken::table(after));
+    Err(format!(
+        "tables differ from octet {at:?} on\nexpected: {:?}\nlibrary: {:?}",
+        rows.0, rows.1
+    ))
+}
+
+/// One call to both; the pair goes on with what each made of it.
+pub fn compare_call(run: &mut Run, pair: &mut Pair, call: &Call) -> Result<u32, String> {
+    compare_in(run, &mut pair.table, &mut pair.plain, call)
+}
+
+/// The same on a table that stands elsewhere.
+pub fn compare_in(
+    run: &mut Run,
+    table: &mut TableOctets,
+    plain: &mut Board,
+    call: &Call,
+) -> Result<u32, String> {
+    run.tally.calls += 1;
+    let before = plain.clone();
+    let told = |text| format!("{text}\ninput: {call:?}\ntable before: {before:?}");
+    let played = caught(|| {
+        let octets = *table;
+        let (number, got) = play(run, table, plain, call)?;
+        same_table(number, &images::after(&octets, &before, plain), got, table)?;
+        if number == 0 {
+            same_rows(plain, table)?;
+        }
+        Ok(number)
+    });
+    played.map_err(told)
+}
+
+/// The octets hold the rows.
+fn same_rows(plain: &Board, table: &TableOctets) -> Result<(), String> {
+    let taken = taken::table(table);
+    if taken == *plain {
         return Ok(());
     }
     Err(format!("tables differ\nsecond program: {plain:?}\nlibrary: {taken:?}"))
 }
 
-/// One call to both; the pair goes on with what each made of it.
-pub fn compare_call(run: &mut Run, pair: &mut Pair, call: &Call) -> Result<u32, String> {
-    run.tally.calls += 1;
-    let before = pair.plain.clone();
-    let told = |text| format!("{text}\ninput: {call:?}\ntable before: {before:?}");
-    caught(|| play(run, pair, call)).map_err(told)
+/// The call's number by the second program, and the library's answer.
+fn play(
+    run: &mut Run,
+    table: &mut TableOctets,
+    plain: &mut Board,
+    call: &Call,
+) -> Result<(u32, Answer), String> {
+    match call {
+        Call::Post(case, block) => enter(run, &POST, (table, plain), case, *block),
+        Call::Receipt(case, block) => enter(run, &RECEIPT, (table, plain), case, *block),
+        Call::Release(key) => take_out(run, table, plain, key),
+    }
 }
 
-fn play(run: &mut Run, pair: &mut Pair, call: &Call) -> Result<u32, String> {
-    let (random, table) = (&mut run.random, &pair.table);
-    let (kind, number, got) = match call {
-        Call::Post(case, block) => {
-            let header = run.rubbish.header(case, random);
-            let number = reference::post(&mut pair.plain, &case.record, *block, case.count);
-            (Kind::Post, number, library::post(table, &header, *block, case.count as usize)?)
-        }
-        Call::Receipt(case, block) => {
-            let header = run.rubbish.header(case, random);
-            let number = reference::receipt(&mut pair.plain, &case.record, *block, case.count);
-            (Kind::Receipt, number, library::receipt(table, &header, *block, case.count as usize)?)
-        }
-        Call::Release(from) => {
-            let key = run.rubbish.key(from, random);
-            let number = reference::release(&mut pair.plain, from);
-            (Kind::Release, number, library::release(table, &key)?)
-        }
-    };
-    same_table(number, &pair.plain, &pair.table, &got)?;
-    run.tally.note(kind, number)?;
-    pair.table = got.table;
-    Ok(number)
+/// The library is asked for the table as a struct too once in so many calls: that costs more than the call.
+const STRUCTS: u32 = 8;
+
+/// A call that takes a record to the table: the second program's, the library's, and the wrapper's for a struct.
+struct OnTable {
+    name: &'static str,
+    kind: Kind,
+    plain: fn(&mut Board, &reference::Header, u32, u64) -> u32,
+    proved: fn(&mut TableOctets, &Header, u32, usize) -> Result<Answer, String>,
+    whole: fn(&mut Table, &Header, u32, usize) -> Result<(), Refusal>,
+}
+
+const POST: OnTable = OnTable {
+    name: "post",
+    kind: Kind::Post,
+    plain: reference::post,
+    proved: library::post,
+    whole: Table::post,
+};
+
+const RECEIPT: OnTable = OnTable {
+    name: "receipt",
+    kind: Kind::Receipt,
+    plain: reference::receipt,
+    proved: library::receipt,
+    whole: Table::receipt,
+};
+
+fn enter(
+    run: &mut Run,
+    call: &OnTable,
+    (table, plain): (&mut TableOctets, &mut Board),
+    case: &Case,
+    block: u32,
+) -> Result<(u32, Answer), String> {
+    let (before, count) = (*table, case.count as usize);
+    let header = run.rubbish.header(case, &mut run.random);
+    let number = (call.plain)(plain, &case.record, block, case.count);
+    let got = (call.proved)(table, &header, block, count)?;
+    if run.random.one_in(STRUCTS) {
+        let whole = |t: &mut Table| (call.whole)(t, &header, block, count);
+        library::same_struct(call.name, &before, (got, table), whole)?;
+    }
+    run.tally.note(call.kind, number)?;
+    Ok((number, got))
+}
+
+fn take_out(
+    run: &mut Run,
+    table: &mut TableOctets,
+    plain: &mut Board,
+    from: &Key,
+) -> Result<(u32, Answer), String> {
+    let before = *table;
+    let key = run.rubbish.key(from, &mut run.random);
+    let number = reference::release(plain, from);
+    let got = library::release(table, &key)?;
+    if run.random.one_in(STRUCTS) {
+        let whole = |t: &mut Table| t.release(&(&key).into());
+        library::same_struct("release", &before, (got, table), whole)?;
+    }
+    run.tally.note(Kind::Release, number)?;
+    Ok((number, got))
 }
 
 // ---------------------------------------------------------------------------
 // Which call comes next
 
-/// A table to begin with; one with no row may be the library's own or any other with count 0.
-fn start(run: &mut Run, pool: &Pool) -> Result<Pair, String> {
+/// A table to begin with; one with no row may be the library's own or any other with count 0. Whether it is the
+/// library's own.
+fn start(run: &mut Run, pool: &Pool) -> Result<(Pair, bool), String> {
     let rows = *run.random.pick(&[0, 0, 1, 8, 20, 31, 32, 32]);
     let plain = pool::table(pool, rows, &mut run.random);
-    if rows > 0 || run.random.coin() {
-        let table = run.rubbish.table(&plain, &mut run.random);
-        return Ok(Pair { table, plain });
+    let mut table = run.rubbish.table(&plain, &mut run.random);
+    let own = rows == 0 && run.random.coin();
+    if own {
+        library::empty(&mut table)?;
     }
-    let table = library::empty()?;
-    match convert::taken_table(&table) {
-        Some(taken) if taken == plain => Ok(Pair { table, plain }),
-        taken => Err(format!("the empty table has rows: {taken:?}")),
+    Ok((Pair { table, plain }, own))
+}
+
+/// From the library's own empty table on, every octet follows from the rows alone.
+pub fn same_image(plain: &Board, table: &TableOctets) -> Result<(), String> {
+    if laid::table_alone(plain) == *table {
+        return Ok(());
     }
+    Err(format!("the octets are not those that the rows alone have: {plain:?}"))
 }
 
 /// Mostly the block that is meant; otherwise none that there is.
@@ -131,7 +218,7 @@ pub fn receipt(pool: &Pool, plain: &Board, random: &mut Random) -> Case {
 }
 
 /// A key to release: one that a row has, one that may be held, or one that is illegal.
-fn key(pool: &Pool, plain: &Board, random: &mut Random) -> Key {
+pub fn key(pool: &Pool, plain: &Board, random: &mut Random) -> Key {
     let mut key = pool.key(random);
     if !plain.rows.is_empty() && random.coin() {
         key = random.pick(&plain.rows).key.clone();
@@ -152,7 +239,7 @@ fn key(pool: &Pool, plain: &Board, random: &mut Random) -> Key {
 }
 
 /// The record of a posting or a receipt: made of the pool, any valid one, or a damaged one.
-fn record(run: &mut Run, pool: &Pool, plain: &Board, posting: bool) -> Case {
+pub fn record(run: &mut Run, pool: &Pool, plain: &Board, posting: bool) -> Case {
     let random = &mut run.random;
     match random.below(24) {
         0 => records::case(random),
@@ -184,12 +271,16 @@ pub fn call(run: &mut Run, pool: &Pool, plain: &Board) -> Call {
 /// A list of calls, with the listing at its end. Now and then the unused cells get new rubbish on the way.
 pub fn compare_list(run: &mut Run) -> Result<(), String> {
     let pool = Pool::new(&mut run.random);
-    let mut pair = start(run, &pool)?;
+    let (mut pair, mut own) = start(run, &pool)?;
     for _ in 0..24 + run.random.below(24) {
         let call = call(run, &pool, &pair.plain);
         compare_call(run, &mut pair, &call)?;
-        if run.random.one_in(8) {
+        if own {
+            same_image(&pair.plain, &pair.table)?;
+        }
+        if run.random.one_in(if own { 64 } else { 8 }) {
             pair.table = run.rubbish.table(&pair.plain, &mut run.random);
+            own = false;
         }
     }
     listing::compare_rows(run, &pair)

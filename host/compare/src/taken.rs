@@ -1,11 +1,11 @@
-//! From a record's octets to the second program's record, by the rules of the layout alone: a flag is set unless its
-//! octet is 0, a number is 32 bits with the low octet first, and a struct stands where the compiler puts it. Any octets
-//! are some record. What is not present, or lies behind a count, is not looked at.
+//! From octets to the second program's records, tables and keys, by the rules of the layout alone: a flag is set unless
+//! its octet is 0, a number is 32 bits with the low octet first, and a struct stands where the compiler puts it. Any
+//! octets are some record, table or key. What is not present, or lies behind a count, is not looked at.
 
 use std::mem::{offset_of, size_of};
 
 use pruvelaccio as product;
-use pruvelaccio::RecordOctets;
+use pruvelaccio::{KeyOctets, RecordOctets, TableOctets};
 use reference as plain;
 
 /// The octets from a field of a struct on; `$s` begins at the struct.
@@ -156,4 +156,54 @@ pub fn header(record: &RecordOctets) -> plain::Header {
         sized: flag(from!(s, Header, sized)),
         blocks: list(from!(s, Header, blocks.list), count, shape, block),
     }
+}
+
+// ---------------------------------------------------------------------------
+// The table
+
+fn key_at(s: &[u8]) -> plain::Key {
+    plain::Key { address: address(from!(s, Key, address)), stamp: stamp(from!(s, Key, stamp)) }
+}
+
+fn recipient(s: &[u8]) -> plain::Recipient {
+    plain::Recipient {
+        address: address(from!(s, Recipient, address)),
+        machine: word(from!(s, Recipient, machine)),
+        acknowledge: word(from!(s, Recipient, acknowledge)),
+        reply: word(from!(s, Recipient, reply)),
+    }
+}
+
+fn row(s: &[u8]) -> plain::Row {
+    let count = word(from!(s, Row, count));
+    let shape = (16, size_of::<product::Recipient>());
+    plain::Row {
+        key: key_at(from!(s, Row, key)),
+        asked: requests(from!(s, Row, asked)),
+        recipients: list(from!(s, Row, recipients), count, shape, recipient),
+    }
+}
+
+/// A row that is as good as any other: of a table with too many nothing else is looked at.
+fn any_row() -> plain::Row {
+    let dtg = plain::Dtg { year: 0, month: 0, day: 0, hour: 0, minute: 0, second: 0 };
+    let stamp = plain::Stamp { dtg, extension: None };
+    let key = plain::Key { address: plain::Address { urn: None, name: None }, stamp };
+    let asked = plain::Requests { machine: false, acknowledge: false, reply: false };
+    plain::Row { key, asked, recipients: Vec::new() }
+}
+
+pub fn key(key: &KeyOctets) -> plain::Key {
+    key_at(key.octets())
+}
+
+/// Taking many rows costs much, so those of a table with too many are not taken.
+pub fn table(table: &TableOctets) -> plain::Board {
+    let s = &table.octets()[..];
+    let count = word(from!(s, Table, count));
+    let rows = match count {
+        0..=32 => list(from!(s, Table, rows), count, (32, size_of::<product::Row>()), row),
+        _ => vec![any_row(); 33],
+    };
+    plain::Board { rows }
 }

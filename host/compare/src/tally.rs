@@ -17,26 +17,37 @@ pub enum Kind {
     OctetsWrite,
     OctetsPost,
     OctetsReceipt,
+    /// And those on whole tables of octets.
+    TablePost,
+    TableReceipt,
+    TableRelease,
+    TableListRow,
 }
 
 const CHECK: &[u32] = &[2, 3, 4, 5, 6, 8, 10, 12];
 const WRITE: &[u32] = &[2, 3, 4, 5, 6, 8, 10, 11, 12];
 const POST: &[u32] = &[2, 3, 4, 5, 6, 8, 10, 12, 20, 21, 22, 23, 29, 30];
 const RECEIPT: &[u32] = &[2, 3, 4, 5, 6, 8, 10, 12, 24, 25, 26, 27, 28, 29, 30];
+const RELEASE: &[u32] = &[3, 4, 6, 26, 30];
+const LIST_ROW: &[u32] = &[11, 30];
 
 /// Each call's name, and the refusals that it can give.
-const KINDS: [(&str, &[u32]); 11] = [
+const KINDS: [(&str, &[u32]); 15] = [
     ("read", &[1, 2, 3, 4, 5, 6, 7, 8, 9, 10, 12]),
     ("check", CHECK),
     ("write", WRITE),
     ("post", POST),
     ("receipt", RECEIPT),
-    ("release", &[3, 4, 6, 26, 30]),
-    ("list_row", &[11, 30]),
+    ("release", RELEASE),
+    ("list_row", LIST_ROW),
     ("check_octets", CHECK),
     ("write_octets", WRITE),
     ("post_octets", POST),
     ("receipt_octets", RECEIPT),
+    ("post, table", POST),
+    ("receipt, table", RECEIPT),
+    ("release, table", RELEASE),
+    ("list_row, table", LIST_ROW),
 ];
 
 /// 0 stands for done.
@@ -50,6 +61,8 @@ pub struct Tally {
     pub records: u64,
     /// Whole records of octets.
     pub octets: u64,
+    /// Whole tables of octets.
+    pub tables: u64,
     pub datagrams: u64,
     pub calls: u64,
     pub rows: u64,
@@ -59,7 +72,8 @@ pub struct Tally {
 impl Tally {
     pub fn new() -> Tally {
         let seen = [[0; 31]; KINDS.len()];
-        Tally { seen, records: 0, octets: 0, datagrams: 0, calls: 0, rows: 0, programs: 0 }
+        let (records, octets, tables, datagrams) = (0, 0, 0, 0);
+        Tally { seen, records, octets, tables, datagrams, calls: 0, rows: 0, programs: 0 }
     }
 
     /// Adds another run's counts.
@@ -69,6 +83,7 @@ impl Tally {
         }
         self.records += other.records;
         self.octets += other.octets;
+        self.tables += other.tables;
         self.datagrams += other.datagrams;
         self.calls += other.calls;
         self.rows += other.rows;
@@ -89,10 +104,10 @@ impl Tally {
         Ok(())
     }
 
-    /// The calls on records as octets behind the others, in a table of their own.
+    /// The calls on records and on tables as octets behind the others, in tables of their own.
     pub fn print(&self) {
-        let octets = Kind::OctetsCheck as usize;
-        for (kinds, wide) in [(0..octets, 10), (octets..KINDS.len(), 16)] {
+        let (records, tables) = (Kind::OctetsCheck as usize, Kind::TablePost as usize);
+        for (kinds, wide) in [(0..records, 10), (records..tables, 16), (tables..KINDS.len(), 16)] {
             let names = KINDS[kinds.clone()].iter().map(|(name, _)| format!("{name:>wide$}"));
             println!("{:<8}{}{:>wide$}", "refusal", names.collect::<String>(), "all");
             NUMBERS.iter().for_each(|number| self.print_line(*number, kinds.clone(), wide));

@@ -1,7 +1,7 @@
-//! The calls. A record is lent and stays where it lies, as a `Header` or as its octets; the table goes over by value,
-//! and what comes back is stored only where the call was done.
+//! The calls. Everything is lent and stays where it lies, as a struct or as its octets; a refusal leaves every octet as
+//! it was.
 
-use crate::octets::RecordOctets;
+use crate::octets::{KeyOctets, Lent, RecordOctets, TableOctets};
 use crate::raw;
 use crate::record::{Header, Key, Table};
 use crate::refusal::Refusal;
@@ -13,7 +13,8 @@ pub struct HeaderRead {
     pub length: usize,
 }
 
-fn done(number: u32, place: usize) -> Result<(), Refusal> {
+fn done(answer: raw::Answer) -> Result<(), Refusal> {
+    let raw::Answer { number, place } = answer;
     if number == 0 {
         Ok(())
     } else {
@@ -22,11 +23,8 @@ fn done(number: u32, place: usize) -> Result<(), Refusal> {
 }
 
 fn size(answer: raw::SizeAnswer) -> Result<usize, Refusal> {
-    done(answer.number, answer.place).map(|()| answer.length)
-}
-
-fn length(answer: raw::SizeAnswer) -> Result<usize, Refusal> {
-    done(answer.number, answer.place).map(|()| answer.length)
+    let raw::SizeAnswer { number, place, length } = answer;
+    done(raw::Answer { number, place }).map(|()| length)
 }
 
 /// Reads a datagram into a new record; unused cells are 0.
@@ -41,7 +39,7 @@ pub fn read(datagram: &[u8]) -> Result<HeaderRead, Refusal> {
 pub fn read_into(datagram: &[u8], header: &mut Header) -> Result<usize, Refusal> {
     // SAFETY: pointer and length are those of a slice that outlives the call, and the record is lent for the call
     // alone. Done, every flag of it holds 0 or 1; refused, it is as it was: a `Header` either way.
-    length(unsafe {
+    size(unsafe {
         raw::pruvelaccio_read_octets(datagram.as_ptr(), datagram.len(), header.pointer_mut())
     })
 }
@@ -49,8 +47,8 @@ pub fn read_into(datagram: &[u8], header: &mut Header) -> Result<usize, Refusal>
 /// The same into octets. Done, those of unused cells and those between the cells are 0 as well.
 pub fn read_octets(datagram: &[u8], record: &mut RecordOctets) -> Result<usize, Refusal> {
     // SAFETY: as in `read_into`; any octets may be left there.
-    length(unsafe {
-        raw::pruvelaccio_read_octets(datagram.as_ptr(), datagram.len(), record.octets_mut())
+    size(unsafe {
+        raw::pruvelaccio_read_octets(datagram.as_ptr(), datagram.len(), record.pointer_mut())
     })
 }
 
@@ -70,7 +68,7 @@ pub fn check(header: &Header, count: usize) -> Result<usize, Refusal> {
 /// The same of any octets.
 pub fn check_octets(record: &RecordOctets, count: usize) -> Result<usize, Refusal> {
     // SAFETY: as in `check`.
-    size(unsafe { raw::pruvelaccio_check_octets(record.octets(), count) })
+    size(unsafe { raw::pruvelaccio_check_octets(record.pointer(), count) })
 }
 
 /// Writes a record's header to the beginning of the output: the octets written. No other octet changes.
@@ -85,73 +83,94 @@ pub fn write(header: &Header, count: usize, out: &mut [u8]) -> Result<usize, Ref
 pub fn write_octets(record: &RecordOctets, count: usize, out: &mut [u8]) -> Result<usize, Refusal> {
     // SAFETY: as in `write`.
     size(unsafe {
-        raw::pruvelaccio_write_octets(record.octets(), count, out.as_mut_ptr(), out.len())
+        raw::pruvelaccio_write_octets(record.pointer(), count, out.as_mut_ptr(), out.len())
     })
 }
 
-impl Table {
-    /// A table with no row.
-    pub fn empty() -> Table {
-        // SAFETY: no argument.
-        unsafe { raw::pruvelaccio_empty_value() }
-    }
+/// The calls on a table, for either form of it. Of a `Table` every flag holds 0 or 1, and a call leaves it so: rows are
+/// moved whole, a new row's flags are 0 or 1, a freed place is 0, a receipt changes numbers, a refusal nothing.
+macro_rules! table_calls {
+    ($($table:ident)+) => { $(
+        impl $table {
+            /// A table with no row: every octet 0.
+            pub fn empty() -> $table {
+                let mut table = $table::zero();
+                table.clear();
+                table
+            }
 
-    fn take(&mut self, answer: raw::TableAnswer) -> Result<(), Refusal> {
-        done(answer.number, answer.place)?;
-        *self = answer.table;
-        Ok(())
-    }
+            /// Makes the table one with no row, where it lies.
+            pub fn clear(&mut self) {
+                // SAFETY: the pointer is that of a whole table, lent for the call alone; 0 is an octet of each cell.
+                unsafe { raw::pruvelaccio_empty_octets(self.pointer_mut()) }
+            }
 
-    /// Posts a block of a record, counted from 1.
-    pub fn post(&mut self, header: &Header, number: u32, count: usize) -> Result<(), Refusal> {
-        // SAFETY: as in `check`; every table of Rust is a valid argument, and it goes by value.
-        let answer = unsafe { raw::pruvelaccio_post_value(*self, header.pointer(), number, count) };
-        self.take(answer)
-    }
+            /// Posts a block of a record, counted from 1. `count` is the datagram's octets of user data.
+            pub fn post(&mut self, header: &Header, number: u32, count: usize) -> Result<(), Refusal> {
+                let (table, header) = (self.pointer_mut(), header.pointer());
+                // SAFETY: pointers to a whole table, lent for the call alone, and to a whole record; any octets are
+                // some table and some record.
+                done(unsafe { raw::pruvelaccio_post_octets(table, header, number, count) })
+            }
 
-    /// The same from any octets.
-    pub fn post_octets(
-        &mut self,
-        record: &RecordOctets,
-        number: u32,
-        count: usize,
-    ) -> Result<(), Refusal> {
-        // SAFETY: as in `post`.
-        let answer = unsafe { raw::pruvelaccio_post_value(*self, record.octets(), number, count) };
-        self.take(answer)
-    }
+            /// The same from any octets.
+            pub fn post_octets(
+                &mut self,
+                record: &RecordOctets,
+                number: u32,
+                count: usize,
+            ) -> Result<(), Refusal> {
+                let (table, record) = (self.pointer_mut(), record.pointer());
+                // SAFETY: as in `post`.
+                done(unsafe { raw::pruvelaccio_post_octets(table, record, number, count) })
+            }
 
-    /// Settles what a block of a record answers.
-    pub fn receipt(&mut self, header: &Header, number: u32, count: usize) -> Result<(), Refusal> {
-        // SAFETY: as in `post`.
-        let answer =
-            unsafe { raw::pruvelaccio_receipt_value(*self, header.pointer(), number, count) };
-        self.take(answer)
-    }
+            /// Settles what a block of a record answers.
+            pub fn receipt(
+                &mut self,
+                header: &Header,
+                number: u32,
+                count: usize,
+            ) -> Result<(), Refusal> {
+                let (table, header) = (self.pointer_mut(), header.pointer());
+                // SAFETY: as in `post`.
+                done(unsafe { raw::pruvelaccio_receipt_octets(table, header, number, count) })
+            }
 
-    /// The same from any octets.
-    pub fn receipt_octets(
-        &mut self,
-        record: &RecordOctets,
-        number: u32,
-        count: usize,
-    ) -> Result<(), Refusal> {
-        // SAFETY: as in `post`.
-        let answer =
-            unsafe { raw::pruvelaccio_receipt_value(*self, record.octets(), number, count) };
-        self.take(answer)
-    }
+            /// The same from any octets.
+            pub fn receipt_octets(
+                &mut self,
+                record: &RecordOctets,
+                number: u32,
+                count: usize,
+            ) -> Result<(), Refusal> {
+                let (table, record) = (self.pointer_mut(), record.pointer());
+                // SAFETY: as in `post`.
+                done(unsafe { raw::pruvelaccio_receipt_octets(table, record, number, count) })
+            }
 
-    /// Takes the row with a key out.
-    pub fn release(&mut self, key: &Key) -> Result<(), Refusal> {
-        // SAFETY: every struct of Rust is a valid argument; they go by value.
-        let answer = unsafe { raw::pruvelaccio_release_value(*self, *key) };
-        self.take(answer)
-    }
+            /// Takes the row with a key out.
+            pub fn release(&mut self, key: &Key) -> Result<(), Refusal> {
+                // SAFETY: as in `post`; the key is a whole one, and any octets are some key.
+                done(unsafe { raw::pruvelaccio_release_octets(self.pointer_mut(), key.pointer()) })
+            }
 
-    /// Writes a row of the listing to the beginning of the output: the octets written. Row 0 counts the rows.
-    pub fn list_row(&self, number: u32, out: &mut [u8]) -> Result<usize, Refusal> {
-        // SAFETY: as in `write` and `release`.
-        size(unsafe { raw::pruvelaccio_list_row_value(*self, number, out.as_mut_ptr(), out.len()) })
-    }
+            /// The same by any octets.
+            pub fn release_octets(&mut self, key: &KeyOctets) -> Result<(), Refusal> {
+                // SAFETY: as in `release`.
+                done(unsafe { raw::pruvelaccio_release_octets(self.pointer_mut(), key.pointer()) })
+            }
+
+            /// Writes a row of the listing to the beginning of the output: the octets written. Row 0 counts the rows.
+            pub fn list_row(&self, number: u32, out: &mut [u8]) -> Result<usize, Refusal> {
+                let (table, room) = (self.pointer(), out.len());
+                // SAFETY: as in `write`; the call only reads the table.
+                size(unsafe {
+                    raw::pruvelaccio_list_row_octets(table, number, out.as_mut_ptr(), room)
+                })
+            }
+        }
+    )+ };
 }
+
+table_calls! { Table TableOctets }

@@ -4,10 +4,12 @@
 //! Every call takes any input and answers with a result or one of the numbered refusals. A refusal changes
 //! nothing that was lent.
 //!
-//! A record is lent to the library and stays where it lies. A host has it as a `Header`, or as `RecordOctets`, which
-//! may be any octets at all.
+//! A record, a table and a key are lent to the library and stay where they lie. A host has each of them as a struct
+//! (`Header`, `Table`, `Key`) or as octets, which may be any octets at all (`RecordOctets`, `TableOctets`, `KeyOctets`).
 
 mod call;
+mod compose;
+mod layout;
 mod load;
 mod octets;
 pub mod raw;
@@ -17,7 +19,9 @@ mod refusal;
 pub use call::{
     check, check_octets, read, read_into, read_octets, user_data, write, write_octets, HeaderRead,
 };
-pub use load::{FlagFault, LoadFault};
-pub use octets::{RecordOctets, RECORD};
+pub use compose::TextFault;
+pub use layout::{KEY, LAYOUT, RECORD, TABLE};
+pub use load::LoadFault;
+pub use octets::{KeyOctets, RecordOctets, TableOctets};
 pub use record::*;
 pub use refusal::Refusal;

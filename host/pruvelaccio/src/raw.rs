@@ -1,9 +1,17 @@
-//! The exported functions as the static library has them: a record as a pointer to its octets, the table and a key by
-//! value, a slice as a pointer and a length. The safe calls of this crate stand over them; a host needs them only for
-//! what a safe call leaves out beside a refusal.
+//! The exported functions as the static library has them: a record, a table and a key as a pointer to their octets, which
+//! need not be aligned, another slice as a pointer and a length. The safe calls of this crate stand over them; a host
+//! needs them only for what a safe call leaves out beside a refusal.
+//!
+//! What a function stores to lies apart from everything else that is lent to the same call.
 
-use crate::octets::RECORD;
-use crate::record::{Key, Table};
+use crate::layout::{KEY, RECORD, TABLE};
+
+#[repr(C)]
+#[derive(Clone, Copy, Debug, PartialEq, Eq)]
+pub struct Answer {
+    pub number: u32,
+    pub place: usize,
+}
 
 #[repr(C)]
 #[derive(Clone, Copy, Debug, PartialEq, Eq)]
@@ -11,14 +19,6 @@ pub struct SizeAnswer {
     pub number: u32,
     pub place: usize,
     pub length: usize,
-}
-
-#[repr(C)]
-#[derive(Clone, Copy)]
-pub struct TableAnswer {
-    pub number: u32,
-    pub place: usize,
-    pub table: Table,
 }
 
 extern "C" {
@@ -35,22 +35,22 @@ extern "C" {
         out: *mut u8,
         room: usize,
     ) -> SizeAnswer;
-    pub fn pruvelaccio_empty_value() -> Table;
-    pub fn pruvelaccio_post_value(
-        table: Table,
+    pub fn pruvelaccio_empty_octets(table: *mut [u8; TABLE]);
+    pub fn pruvelaccio_post_octets(
+        table: *mut [u8; TABLE],
         header: *const [u8; RECORD],
         number: u32,
         count: usize,
-    ) -> TableAnswer;
-    pub fn pruvelaccio_receipt_value(
-        table: Table,
+    ) -> Answer;
+    pub fn pruvelaccio_receipt_octets(
+        table: *mut [u8; TABLE],
         header: *const [u8; RECORD],
         number: u32,
         count: usize,
-    ) -> TableAnswer;
-    pub fn pruvelaccio_release_value(table: Table, key: Key) -> TableAnswer;
-    pub fn pruvelaccio_list_row_value(
-        table: Table,
+    ) -> Answer;
+    pub fn pruvelaccio_release_octets(table: *mut [u8; TABLE], key: *const [u8; KEY]) -> Answer;
+    pub fn pruvelaccio_list_row_octets(
+        table: *const [u8; TABLE],
         number: u32,
         out: *mut u8,
         room: usize,

@@ -1,4 +1,4 @@
-//! The structs that the proved library takes and gives back, laid out as it lays them out.
+//! The structs that the proved library is lent and works on where they lie, laid out as it lays them out.
 //!
 //! Numbers are `u32` so that a record can hold a value that does not fit its field: finding that out is
 //! the writer's task. What is not present, or lies behind a count, is an unused cell.

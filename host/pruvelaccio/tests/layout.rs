@@ -3,11 +3,10 @@
 mod support;
 
 use std::mem::{offset_of, size_of};
-use std::path::{Path, PathBuf};
 use std::process::Command;
 
+use pruvelaccio::raw::{Answer, SizeAnswer};
 use pruvelaccio::*;
-use pruvelaccio::raw::{SizeAnswer, TableAnswer};
 use support::*;
 
 /// `OptionalNumber` is `optional_number` in C.
@@ -38,31 +37,16 @@ macro_rules! layout {
 
 fn layout_in_rust() -> Vec<String> {
     let answers = layout! {
+        Answer { number, place }
         SizeAnswer { number, place, length }
-        TableAnswer { number, place, table }
     };
     let structs = pruvelaccio::each_struct!(layout);
     structs.into_iter().chain(answers).collect()
 }
 
-fn repository() -> PathBuf {
-    Path::new(env!("CARGO_MANIFEST_DIR")).join("../..")
-}
-
-/// What host/c/layout.c prints, compiled here.
+/// What host/c/layout.c prints.
 fn layout_in_c() -> String {
-    let program = Path::new(env!("CARGO_TARGET_TMPDIR")).join("layout");
-    let compiled = Command::new("cc")
-        .arg("-std=c11")
-        .arg("-I")
-        .arg(repository().join("include"))
-        .arg(repository().join("host/c/layout.c"))
-        .arg("-o")
-        .arg(&program)
-        .status()
-        .expect("cc");
-    assert!(compiled.success());
-    let said = Command::new(&program).output().expect("the program just compiled");
+    let said = Command::new(compiled_c("layout")).output().expect("the program just compiled");
     assert!(said.status.success());
     String::from_utf8(said.stdout).expect("words and numbers")
 }
@@ -99,6 +83,8 @@ fn sizes_and_offsets_of_a_record_are_those_of_the_layout() {
     let (rust, layout) = (layout_in_rust(), layout_of_a_record());
     assert_eq!(rust[..layout.len()], layout);
     assert!(layout.contains(&format!("header {RECORD}")));
+    assert!(layout.contains(&format!("table {TABLE}")));
+    assert!(layout.contains(&format!("key {KEY}")));
 }
 
 #[test]
@@ -271,8 +257,5 @@ fn each_cell_that_the_library_stores_is_ours() {
     expected.rows[0] = held;
     expected.count = 1;
     assert_eq!(listing(&table), listing(&expected));
-    assert_eq!(format!("{:?}", table.rows[0].key), format!("{:?}", held.key));
-    assert_eq!(format!("{:?}", table.rows[0].asked), format!("{:?}", held.asked));
-    let recipients = &table.rows[0].recipients[..2];
-    assert_eq!(format!("{recipients:?}"), format!("{:?}", &held.recipients[..2]));
+    assert_eq!(TableOctets::from(&table), TableOctets::from(&expected));
 }

@@ -1,6 +1,6 @@
 //! The same table calls behind signatures by value: record and table come by value, the table goes back by value, and
-//! the host stores it. What this costs beside the calls in place is copying alone. The exported calls were so; now they
-//! are lent the record, and the table alone goes by value.
+//! the host stores it. What this costs beside the calls in place is copying alone. The exported calls were so once; now
+//! they are lent both.
 
 use pruvelaccio::{Header, Key, Refusal, Table};
 
@@ -34,7 +34,7 @@ extern "C" fn release_value(mut t: Table, key: Key) -> TableAnswer {
     answer(t, done)
 }
 
-/// As the wrapper of the exported calls does it with the table.
+/// As the wrapper of the exported calls did it with the table.
 fn take(t: &mut Table, answer: TableAnswer) -> Result<(), Refusal> {
     if answer.number != 0 {
         return Err(Refusal { number: answer.number, place: answer.place });

@@ -5,6 +5,7 @@ use super::limits::{ADDRESSEES, ROWS};
 use super::order::{by_address, find_row};
 use super::rules::any_asked;
 use super::well::{answers_acknowledge, answers_machine, answers_reply, well_formed};
+use super::zero::NO_ROW;
 use pruvelaccio::*;
 
 fn refusal(number: u32) -> Refusal {
@@ -113,7 +114,7 @@ fn settle(asked: &Requests, code: u32, r: &mut Recipient) -> bool {
     settled
 }
 
-/// Takes the row with a key out.
+/// Takes the row with a key out. The place that the last row leaves has 0 in every cell.
 #[inline(never)]
 pub fn release(t: &mut Table, key: &Key) -> Result<(), Refusal> {
     if !well_formed(t) {
@@ -126,6 +127,7 @@ pub fn release(t: &mut Table, key: &Key) -> Result<(), Refusal> {
         return Err(refusal(26));
     };
     t.rows.copy_within(at + 1..rows, at);
+    t.rows[rows - 1] = NO_ROW;
     t.count -= 1;
     Ok(())
 }

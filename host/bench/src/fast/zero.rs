@@ -1,4 +1,4 @@
-//! The record with every cell 0, which a reading starts from.
+//! The record with every cell 0, which a reading starts from, and such a row.
 
 use pruvelaccio::*;
 
@@ -71,4 +71,13 @@ pub const NO_HEADER: Header = Header {
     },
     sized: false,
     blocks: Blocks { list: [NO_BLOCK; 16], count: 0 },
+};
+
+const NO_RECIPIENT: Recipient = Recipient { address: NO_ADDRESS, machine: 0, acknowledge: 0, reply: 0 };
+
+pub const NO_ROW: Row = Row {
+    key: Key { address: NO_ADDRESS, stamp: NO_STAMP },
+    asked: NO_REQUESTS,
+    recipients: [NO_RECIPIENT; 16],
+    count: 0,
 };

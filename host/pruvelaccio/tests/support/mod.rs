@@ -1,7 +1,31 @@
 //! Records with a value of its own in each used cell, and the octets of a record's header, put together here bit by
 //! bit in the order of Table I.
 
+use std::path::{Path, PathBuf};
+use std::process::Command;
+
 use pruvelaccio::*;
+
+pub fn repository() -> PathBuf {
+    Path::new(env!("CARGO_MANIFEST_DIR")).join("../..")
+}
+
+/// A program of host/c, compiled and linked with the proved library.
+#[allow(dead_code)]
+pub fn compiled_c(name: &str) -> PathBuf {
+    let program = Path::new(env!("CARGO_TARGET_TMPDIR")).join(name);
+    let compiled = Command::new("cc")
+        .args(["-std=c11", "-O2", "-Wall", "-Wextra", "-Werror", "-I"])
+        .arg(repository().join("include"))
+        .arg(repository().join("host/c").join(name).with_extension("c"))
+        .arg(repository().join("target/staticlib/libgateway.a"))
+        .arg("-o")
+        .arg(&program)
+        .status()
+        .expect("cc");
+    assert!(compiled.success());
+    program
+}
 
 /// The data that goes with `message`.
 #[allow(dead_code)]

@@ -1,65 +1,55 @@
 -- `transitions::settled::settled_row` meets its contract. Assumes nothing.
 use borrow.Author.Needs.{needs}
-use mathlib.Core.Path.{_≡_, refl, _∙_, subst}
-use lib.ListN.{length}
-use native.Mathlib.Omega.{arith}
 use borrow.Author.Tests.{not-true, not-false}
-use Rattle.codec.proofs.ListLaws.{unmapped}
+use Prim.Native.Nat.{ℕ, _+_, _-_, _*_, _<_, _≤_}
+use mathlib.Core.Path.{_≡_, refl, sym, ap, _∙_}
+use mathlib.Core.Bool.{Bool, true, false, cond}
+use native.Mathlib.Omega.{arith}
 use Rattle.order.specs.Values.{addressOf, byAddress}
+use Rattle.record_octets.specs.Record.{addressIn, requestsIn}
 use Rattle.table.specs.Search.{Stopped, addressesOf}
 use Rattle.table.proofs.Parts.{fine-row}
+use Rattle.table_octets.specs.Table.{rowIn}
 use Rattle.arguments.specs.Told.{pendingNo, answerNo, answerPlace}
-use Rattle.transitions.proofs.Receipts.{row-stranger, row-shut, row-answered, row-after, row-kept, chosen, picked}
+use Rattle.transitions.proofs.Receiving.{sought, stranger, answered}
 use Rattle.transitions.proofs.settled.settled_row.Statement.{statement}
 use Rattle.transitions.proofs.settled.settled_row.Tie as tie
 
+-- the row's count
+few : (c : tie.After-load-word) → c .load-word .result ≤ 16
+unfolding rowIn
+few c = let m : rowIn (c .before .before .before .before .before .args .r .now) .count ≤ 16 = fine-row (rowIn (c .before .before .before .before .before .args .r .now)) (c .before .before .before .before .before .pre .2) .most in omega (arith, c .load-word .ensures)
+
+asks : (c : tie.After-load-requests) → c .load-requests .result ≡ rowIn (c .before .before .before .before .before .before .before .before .before .before .before .before .args .r .now) .asked
+unfolding rowIn
+asks c = c .load-requests .ensures
+
+lent : (n : ℕ) → n + 92 - n ≡ 92
+lent n = omega arith
+
 find-recipient-requires : tie.Need-find-recipient-requires
-find-recipient-requires c κs = fine-row (c .args .t1) (c .pre .0) .most
+find-recipient-requires c κs = (search needs, few (c .before .before), c .before .before .before .before .before .before .before .pre .1)
 
 returns : tie.Need-returns
 unfolding pendingNo
-returns c =
-    let s = c .before .before .before in
-    let e = c .refusal .ensures in
-    let g = row-stranger (s .args .t1) (s .pre .0) (s .args .from) (s .args .code) _ (subst (Stopped byAddress (addressOf (c .before .before .before .args .from)) (addressesOf (c .before .before .before .args .t1)) (c .before .before .find-recipient .result .at)) (not-true _ (c .before .if1 .taken)) (c .before .before .find-recipient .ensures .2)) in
-    (e .0 ∙ g .0, e .1, refl, g .1, s .pre .0, λ r. refl)
+returns c = let e = stranger (c .before .before .before .before .before .before .before .before .before .before .args .r .now) (c .before .before .before .before .before .before .before .before .before .before .pre .0) (c .before .before .before .before .before .before .before .before .before .before .pre .2) (addressIn (c .before .before .before .before .before .before .before .before .before .before .args .from .now)) (c .before .before .before .before .before .before .before .before .before .before .args .code) (c .before .before .find-recipient .result .at) (sought (c .before .before .before .before .before .before .before .before .before .before .args .r .now) _ _ _ false _ (c .before .before .before .before .before .load-word .ensures) (not-true _ (c .before .if1 .taken)) (c .before .before .find-recipient .ensures .2)) in (c .refusal .ensures .0 ∙ e .0, c .refusal .ensures .1, e .1)
 
-mul-x : tie.Need-mul-x
-mul-x c = let l : length (c .before .before .args .t1 .recipients) ≡ 16 = search (needs, unmapped) in let m = fine-row (c .before .before .args .t1) (c .before .before .pre .0) .most in let k = (c .before .find-recipient .ensures .1 (not-false _ (c .if1 .left))) in search needs
-
-element-copy-out-x : tie.Need-element-copy-out-x
-element-copy-out-x c = let l : length (c .before .before .args .t1 .recipients) ≡ 16 = search (needs, unmapped) in let m = fine-row (c .before .before .args .t1) (c .before .before .pre .0) .most in let k = (c .before .find-recipient .ensures .1 (not-false _ (c .if1 .left))) in omega arith
-
-settle-requires : tie.Need-settle-requires
-settle-requires c κs = c .before .before .before .before .pre .1
+part-settle-end : tie.Need-part-settle-end
+part-settle-end c = let k = few (c .before .before .before .before .before .before .before) in let h = c .before .before .before .before .find-recipient .ensures .1 (not-false _ (c .before .before .before .if1 .left)) in let l = c .before .before .before .before .before .before .before .before .before .before .before .before .pre .0 in omega arith
 
 returns-2 : tie.Need-returns-2
 unfolding pendingNo
 returns-2 c =
-    let s = c .before .before .before .before .before .before .before in
-    let e = c .refusal2 .ensures in
-    let q = c .before .before .settle .ensures .1 in
-    let g = row-shut (s .args .t1) (s .pre .0) (s .args .from) (s .args .code) _ _ (subst (Stopped byAddress (addressOf (c .before .before .before .before .before .before .before .args .from)) (addressesOf (c .before .before .before .before .before .before .before .args .t1)) (c .before .before .before .before .before .before .find-recipient .result .at)) (not-false _ (c .before .before .before .before .before .if1 .left)) (c .before .before .before .before .before .before .find-recipient .ensures .2)) (q ∙ chosen (c .before .before .settle .result .opened) _ (not-true (c .before .before .settle .result .opened) (c .before .if2 .taken))) in
-    (e .0 ∙ g .0, e .1, refl, g .1, s .pre .0, λ r. refl)
-
-replace-recipient-requires : tie.Need-replace-recipient-requires
-replace-recipient-requires c κs = ((c .before .before .before .before .before .find-recipient .ensures .1 (not-false _ (c .before .before .before .before .if1 .left))), fine-row (c .before .before .before .before .before .before .args .t1) (c .before .before .before .before .before .before .pre .0) .most)
+    let p = sought (c .before .before .before .before .before .before .before .before .before .before .before .before .before .before .before .before .before .before .args .r .now) _ _ _ true _ (c .before .before .before .before .before .before .before .before .before .before .before .before .before .load-word .ensures) (not-false _ (c .before .before .before .before .before .before .before .before .before .if1 .left)) (c .before .before .before .before .before .before .before .before .before .before .find-recipient .ensures .2) in
+    let e = answered (c .before .before .before .before .before .before .before .before .before .before .before .before .before .before .before .before .before .before .args .r .now) (c .before .before .before .before .before .before .before .before .before .before .before .before .before .before .before .before .before .before .pre .0) (c .before .before .before .before .before .before .before .before .before .before .before .before .before .before .before .before .before .before .pre .2) (addressIn (c .before .before .before .before .before .before .before .before .before .before .before .before .before .before .before .before .before .before .args .from .now)) (c .before .before .before .before .before .before .before .before .before .before .before .before .before .before .before .before .before .before .args .code) (c .before .before .before .before .before .before .before .before .before .before .find-recipient .result .at) p (c .before .before .before .before .before .before .load-requests .result) (asks (c .before .before .before .before .before .before)) _ (lent (116 + c .before .before .before .before .before .before .before .before .before .before .find-recipient .result .at * 92)) (c .before .before .before .before .settle .result) (c .before .before .before .before .settle .last .1 .1 .0) (c .before .before .before .before .settle .ensures .0) (c .before .before .before .before .settle .ensures .1) in
+    (c .refusal2 .ensures .0 ∙ sym (e .0 ∙ ap (λ (b : Bool). cond b 0 28) (not-true (c .before .before .before .before .settle .result) (c .before .if2 .taken))), c .refusal2 .ensures .1, e .1)
 
 returns-3 : tie.Need-returns-3
 unfolding answerNo answerPlace
 returns-3 c =
-    let s = c .before .before .before .before .before .before .before in
-    let e = c .replace-recipient .ensures in
-    let q = c .before .before .settle .ensures in
-    let f = (subst (Stopped byAddress (addressOf (c .before .before .before .before .before .before .before .args .from)) (addressesOf (c .before .before .before .before .before .before .before .args .t1)) (c .before .before .before .before .before .before .find-recipient .result .at)) (not-false _ (c .before .before .before .before .before .if1 .left)) (c .before .before .before .before .before .before .find-recipient .ensures .2)) in
-    let z = q .1 ∙ picked (c .before .before .settle .result .opened) _ (not-false (c .before .before .settle .result .opened) (c .before .if2 .left)) in (
-      row-answered (s .args .t1) (s .pre .0) (s .args .from) (s .args .code) _ _ f _ (q .0) z _ (e .0) (e .1) (e .2) (e .3),
-      refl,
-      e .0,
-      row-after (s .args .t1) (s .pre .0) (s .args .from) (s .args .code) _ _ f _ (q .0) z _ (e .0) (e .1) (e .2) (e .3),
-      row-kept (s .args .t1) (s .pre .0) (s .args .from) (s .args .code) _ _ f _ (q .0) z _ (e .0) (e .1) (e .2) (e .3),
-      λ r. absurd (r refl),
-    )
+    let p = sought (c .before .before .before .before .before .before .before .before .before .before .before .before .before .before .before .before .before .args .r .now) _ _ _ true _ (c .before .before .before .before .before .before .before .before .before .before .before .before .load-word .ensures) (not-false _ (c .before .before .before .before .before .before .before .before .if1 .left)) (c .before .before .before .before .before .before .before .before .before .find-recipient .ensures .2) in
+    let e = answered (c .before .before .before .before .before .before .before .before .before .before .before .before .before .before .before .before .before .args .r .now) (c .before .before .before .before .before .before .before .before .before .before .before .before .before .before .before .before .before .pre .0) (c .before .before .before .before .before .before .before .before .before .before .before .before .before .before .before .before .before .pre .2) (addressIn (c .before .before .before .before .before .before .before .before .before .before .before .before .before .before .before .before .before .args .from .now)) (c .before .before .before .before .before .before .before .before .before .before .before .before .before .before .before .before .before .args .code) (c .before .before .before .before .before .before .before .before .before .find-recipient .result .at) p (c .before .before .before .before .before .load-requests .result) (asks (c .before .before .before .before .before)) _ (lent (116 + c .before .before .before .before .before .before .before .before .before .find-recipient .result .at * 92)) (c .before .before .before .settle .result) (c .before .before .before .settle .last .1 .1 .0) (c .before .before .before .settle .ensures .0) (c .before .before .before .settle .ensures .1) in
+    (sym (e .0 ∙ ap (λ (b : Bool). cond b 0 28) (not-false (c .before .before .before .settle .result) (c .if2 .left))), refl, e .1)
 
 pub settled-row-spec : {M : Type 1} → statement M
-settled-row-spec = tie.close (tie.spec find-recipient-requires (λ c κs. search needs) returns mul-x element-copy-out-x settle-requires (λ c κs. search needs) returns-2 replace-recipient-requires returns-3)
+settled-row-spec = tie.close (tie.spec (λ c. search needs) (λ c. search needs) (λ c. search needs) (λ c κs. search needs) (λ c. search needs) (λ c. search needs) (λ c. search needs) find-recipient-requires (λ c κs. search needs) (λ c. search needs) returns (λ c. search needs) (λ c. search needs) (λ c. search needs) (λ c κs. search needs) (λ c. search needs) (λ c. search needs) (λ c. search needs) (λ c. search needs) (λ c. search needs) part-settle-end (λ c κs. search needs) (λ c κs. search needs) (λ c. search needs) returns-2 (λ c. search needs) returns-3)

@@ -1,0 +1,2 @@
+mod Sought
+pub mod Blanks
