@@ -102,7 +102,7 @@ typedef struct pruvelaccio_optional_addresses {
 
 /* The fields up to the end of G3. */
 typedef struct pruvelaccio_front {
-    uint32_t version;
+    uint32_t version;                           /* 1 or 2 */
     pruvelaccio_optional_number compression;
     pruvelaccio_optional_address originator;    /* G1 */
     pruvelaccio_optional_addresses recipients;  /* G2 */
@@ -157,7 +157,7 @@ typedef struct pruvelaccio_optional_identity {
 /* User message format, message standard version, G4, file name. */
 typedef struct pruvelaccio_format {
     uint32_t umf;
-    pruvelaccio_optional_number version;
+    pruvelaccio_optional_number version; /* absent in a record of version 1 */
     pruvelaccio_optional_identity identity;
     pruvelaccio_optional_text file;
 } pruvelaccio_format;
@@ -328,8 +328,8 @@ static inline const char *pruvelaccio_meaning(uint32_t number)
     switch (number) {
     case 0: return "done";
     case 1: return "the bits end inside a field";
-    case 2: return "the version is not legal";
-    case 3: return "another code is not legal";
+    case 2: return "the version is neither 1 nor 2";
+    case 3: return "another code is not legal, or a record of version 1 has a standard version";
     case 4: return "a text is empty, or a character or a length of it is bad";
     case 5: return "a list of addressees, blocks or references is longer than it may be, or empty";
     case 6: return "an address has both forms or neither";

@@ -199,7 +199,9 @@ typedef struct datagram_case {
 
 static const datagram_case datagram_cases[] = {
     {"no octets", {0}, 0, {1, 0}},
-    {"version 1", {0x01}, 1, {2, 0}},
+    {"version 3", {0x03}, 1, {2, 0}},
+    {"version 1 cut behind an octet", {0x01}, 1, {1, 8}},
+    {"version 1, G10 present", {0x01, 0x08, 0x00, 0x80, 0x01}, 5, {7, 31}},
     {"compression 2", {0x52}, 1, {3, 5}},
     {"a name that is a marker", {0xA2, 0x7F}, 2, {4, 8}},
     {"neither form of an address", {0x22}, 1, {6, 7}},
@@ -269,6 +271,32 @@ static void reading_done(void)
     nothing_else_changed(read_call, "a message: the record and the length alone");
 }
 
+/*
+ * B in version 1 has no bit 67, the presence of the standard version: every bit behind it stands one place
+ * lower. Its record is B's but for the version, and is written again as these octets.
+ */
+static void version_1(void)
+{
+    static const uint8_t octets[] = {0xE1, 0x67, 0x00, 0x00, 0x1D, 0x00, 0x00, 0x00, 0x01,
+                                     0x80, 0xE0, 0x1B, 0x70, 0xBB, 0x19, 0x00, 0x01};
+    pruvelaccio_header record;
+    uint8_t out[PRUVELACCIO_HEADER_OCTETS];
+    size_t length = 0;
+    size_t written = 0;
+    set_up();
+    now.header.front.version = 1;
+    pruvelaccio_answer answer = pruvelaccio_read(octets, sizeof(octets), &record, &length);
+    expect("read", "version 1", answer.number == 0 && length == MESSAGE_HEADER);
+    expect("read", "version 1: the record", memcmp(&record, &now.header, sizeof(record)) == 0);
+    answer = pruvelaccio_write(&record, MESSAGE_DATA, out, sizeof(out), &written);
+    expect("write", "version 1", answer.number == 0 && written == length);
+    expect("write", "version 1: the octets", memcmp(out, octets, written) == 0);
+    answer = pruvelaccio_post(&now.table, &record, 1, MESSAGE_DATA);
+    expect("post", "version 1", answer.number == 0);
+    now.header.front.version = 2;
+    refused_at_0(post_call, "version 2 behind version 1", 1, MESSAGE_DATA, 22);
+}
+
 static void user_data_handed_back(void)
 {
     size_t length = 77;
@@ -291,7 +319,14 @@ static void as_it_is(pruvelaccio_header *header)
 
 static void spoil_version(pruvelaccio_header *header)
 {
+    header->front.version = 3;
+}
+
+/* Version 1 has no message standard version. */
+static void spoil_standard(pruvelaccio_header *header)
+{
     header->front.version = 1;
+    header->blocks.list[0].format.version.present = true;
 }
 
 static void spoil_format(pruvelaccio_header *header)
@@ -357,7 +392,8 @@ typedef struct record_case {
 } record_case;
 
 static const record_case record_cases[] = {
-    {"version 1", spoil_version, MESSAGE_DATA, 2},
+    {"version 3", spoil_version, MESSAGE_DATA, 2},
+    {"version 1 with a standard version", spoil_standard, MESSAGE_DATA, 3},
     {"every octet a pattern", spoil_all, MESSAGE_DATA, 2},
     {"every octet a pattern but the version's", spoil_all_but_version, MESSAGE_DATA, 3},
     {"UMF 9", spoil_format, MESSAGE_DATA, 3},
@@ -1014,6 +1050,7 @@ int main(void)
     reading_refused();
     reading_too_many();
     reading_done();
+    version_1();
     user_data_handed_back();
     calls_with_records();
     calls_with_tables();

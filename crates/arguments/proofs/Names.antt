@@ -51,7 +51,7 @@ module _ (h : Header) (count : ℕ) (v : Valid h count) where
   used n e i q = omega (arith, leb-true n (h .blocks .count) (and-right (leb 1 n) (leb n (h .blocks .count)) e), q)
 
   -- the block that is looked at is a block of the record
-  pub legal-at : (n : ℕ) → hasBlock h n ≡ true → block .check (blockAt h n) ≡ 0
+  pub legal-at : (n : ℕ) → hasBlock h n ≡ true → block (h .front .version) .check (blockAt h n) ≡ 0
   unfolding blockAt
   legal-at zero e = let z : _≡_ {A = ℕ} 0 1 = cc in absurd (omega arith)
   legal-at (suc i) e = block-legal h (blocks-legal h (v .fields)) (v .rules) i (used (suc i) e i refl)
@@ -84,7 +84,7 @@ posts h n count e =
       from-there = w .0;
       from-legal = front-originator (h .front) (front-legal h (v .fields)) (w .0);
       origin = w .1;
-      origin-legal = block-origin (blockAt h n) (legal-at h count v n t) (w .1);
+      origin-legal = block-origin (h .front .version) (blockAt h n) (legal-at h count v n t) (w .1);
     }
 
 -- the checks that a receipt has passed
@@ -114,7 +114,7 @@ answers h n count e =
       valid = v;
       block-there = t;
       response = r;
-      stamp-legal = block-response (blockAt h n) (legal-at h count v n t) r;
+      stamp-legal = block-response (h .front .version) (blockAt h n) (legal-at h count v n t) r;
       from-there = and-left (h .front .originator .present) (oneRecipient h) o;
       one = one;
       to-legal = front-recipient (h .front) 0 (front-legal h (v .fields)) p (omega (arith, k));

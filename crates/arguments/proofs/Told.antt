@@ -70,7 +70,7 @@ block-is h (suc i) d e l = let k : suc i - 1 ≡ i = omega arith in any-default 
 -- the block at hand is that block, in a record that is valid
 pub block-named : (h : Header) (n count : ℕ) (b : Block) → faultOf h count ≡ 0 → hasBlock h n ≡ true → (hasBlock h n ≡ true → h .blocks .count ≤ 16 → b ≡ blockAt h n) → b ≡ blockAt h n
 unfolding blocks viewed
-block-named h n count b v e is = is e (count-most noBlock block 16 15 _ _ (blocks-legal h (valid-fields h count v)))
+block-named h n count b v e is = is e (count-most noBlock (block (h .front .version)) 16 15 _ _ (blocks-legal h (valid-fields h count v)))
 
 -- ---- the writer's answer
 

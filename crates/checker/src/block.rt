@@ -13,12 +13,12 @@ use codec::Check;
 use codec::earlier;
 use record_octets::in_block;
 
-// A message block; the presence bit of G10 has no cell.
-pub fn check_block(x: &[u8]) -> Check
+// A message block of a record of that version; the presence bit of G10 has no cell.
+pub fn check_block(version: u32, x: &[u8]) -> Check
     requires { ⌜ length (now x) ≡ sizeOfBlock ⌝ }
-    ensures { λ r. ⌜ checkNo r ≡ block .check (blockIn (now (x .entry))) ⌝ }
+    ensures { λ r. ⌜ checkNo r ≡ block version .check (blockIn (now (x .entry))) ⌝ }
 {
-    let format = check_format(&x[in_block::FORMAT..in_block::HANDLING]);
+    let format = check_format(version, &x[in_block::FORMAT..in_block::HANDLING]);
     let handling = check_handling(&x[in_block::HANDLING..in_block::TIMES]);
     let times = check_times(&x[in_block::TIMES..in_block::RESPONSE]);
     let response = check_optional_response(&x[in_block::RESPONSE..in_block::REFERENCES]);

@@ -6,7 +6,7 @@ use mathlib.Core.List.{List, [], _∷_, _++_, map, Forall₂, Forall₂·nil, Fo
 use lib.ListN.{length, take, replicate, length-append, length-take}
 use lib.Seq.{take-append-seam, take-at}
 use native.Mathlib.Omega.{arith}
-use Rattle.codec.specs.Codec.{Codec, number, flag, nothing, _thenBy_, _&_, present, optional, viewed, shaped, tested, _closedBy_}
+use Rattle.codec.specs.Codec.{Codec, number, flag, nothing, _thenBy_, _&_, present, optional, viewed, shaped, tested, unless, _closedBy_}
 use Rattle.codec.specs.Characters.{characters}
 use Rattle.codec.specs.Lists.{listed, cells}
 use Rattle.codec.specs.Same.{_and_, sameOptional, sameArray}
@@ -77,6 +77,10 @@ shaped-agrees to from {c} inner back =
 pub tested-agrees : {A : Type 0} (test : A → Bool) (fault : ℕ) {c : Codec A} {S : A → A → Type 0} → Agrees c S → Agrees (tested test fault c) S
 unfolding tested
 tested-agrees test fault inner = record { told = inner .told; made = inner .made }
+
+pub unless-agrees : {A : Type 0} (lacking : Bool) (x : A) (there : A → Bool) (fault : ℕ) {c : Codec A} {S : A → A → Type 0} → Agrees c S → Agrees (unless lacking x there fault c) S
+unfolding unless
+unless-agrees lacking x there fault inner = record { told = inner .told; made = inner .made }
 
 pub closedBy-agrees : {A : Type 0} {c : Codec A} {S : A → A → Type 0} (fault : ℕ) → Agrees c S → Agrees (c closedBy fault) S
 unfolding _closedBy_ viewed

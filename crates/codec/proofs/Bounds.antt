@@ -9,7 +9,7 @@ use borrow.Author.Tests.{leb-true}
 use native.Mathlib.Nat.{suc-mul, mul-le-mul-right}
 use native.Mathlib.Omega.{arith}
 use Rattle.codec.specs.Answer.{pick}
-use Rattle.codec.specs.Codec.{Codec, number, flag, nothing, first, _thenBy_, _&_, present, optional, viewed, shaped, tested, must, _closedBy_}
+use Rattle.codec.specs.Codec.{Codec, number, flag, nothing, first, _thenBy_, _&_, present, optional, viewed, shaped, tested, unless, must, _closedBy_}
 use Rattle.codec.specs.Characters.{characters}
 use Rattle.codec.specs.Lists.{recurs, listed, cells}
 use Rattle.codec.proofs.Fields.{and-right}
@@ -64,6 +64,11 @@ shaped-bounded to from bc = viewed-bounded to from _ _ 0 (λ y l. l) bc
 pub tested-bounded : {A : Type 0} (test : A → Bool) (fault : ℕ) {c : Codec A} {n : ℕ} → Bounded c n → Bounded (tested test fault c) n
 unfolding tested
 tested-bounded test fault {c} bc = record { most = λ x l. bc .most x (first-zero (c .check x) (pick (test x) 0 fault) l .0) }
+
+pub unless-bounded : {A : Type 0} (x : A) (there : A → Bool) (fault : ℕ) {c : Codec A} {n : ℕ} → Bounded c n → (lacking : Bool) → Bounded (unless lacking x there fault c) n
+unfolding unless
+unless-bounded x there fault bc true = record { most = λ y l. omega arith }
+unless-bounded x there fault bc false = record { most = bc .most }
 
 pub must-bounded : (b : Bool) (fault : ℕ) → Bounded (must b fault) 1
 must-bounded b fault = tested-bounded _ fault flag-bounded

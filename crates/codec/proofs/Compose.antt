@@ -10,8 +10,8 @@ use denote.Enum.Declared.{tagOf}
 use Rattle.bits.specs.Bits.{bitsOf, splice}
 use Rattle.bits.specs.declared.BitPlace.{BitPlace}
 use Rattle.bits.proofs.Splices.{splice-splice, splice-nil}
-use Rattle.codec.specs.Answer.{got, refused, next}
-use Rattle.codec.specs.Codec.{Codec, first, same, must, number, nothing, _thenBy_, viewed, present, tested, flag, _closedBy_}
+use Rattle.codec.specs.Answer.{got, refused, next, pick}
+use Rattle.codec.specs.Codec.{Codec, first, same, must, number, nothing, _thenBy_, viewed, present, unless, tested, flag, _closedBy_}
 use Rattle.codec.specs.Refusals.{faultNo, answer, numberAnswer, flagAnswer, numberStep, flagStep}
 use Rattle.codec.specs.Writes.{Writes}
 use Rattle.codec.specs.declared.Fault.{Fault}
@@ -239,3 +239,40 @@ closed-checks c fault y r e = e ∙ go (c .check y)
     go (suc n) = refl
 
 pub ruleset checking = (then-checks, flag-checks, shape-checks, closed-checks, present-check, absent-check)
+
+-- a field that an edition may lack: where it has it, and where it lacks it
+module _ {A : Type 0} (lacking : Bool) (x : A) (there : A → Bool) (fault : ℕ) (c : Codec A) where
+  module _ (e : lacking ≡ false) where
+    pub had-read : (bs : List Bool) (p : ℕ) (st : Step) (y : A) → answer st y ≡ c .read bs p → answer st y ≡ unless lacking x there fault c .read bs p
+    unfolding unless
+    had-read bs p st y h = rw e h
+
+    pub had-check : (y : A) (n : ℕ) → n ≡ c .check y → n ≡ unless lacking x there fault c .check y
+    unfolding unless
+    had-check y n h = rw e h
+
+    pub had-size : (y : A) → unless lacking x there fault c .size y ≡ c .size y
+    unfolding unless
+    had-size y = rw e
+
+    pub had-writes : (y : A) (s t : List ℕ) (p q : ℕ) → Writes c y s t p q → Writes (unless lacking x there fault c) y s t p q
+    unfolding unless
+    had-writes y s t p q w = record { bits = rw e (w .bits); ends = rw e (w .ends); next = rw e (w .next) }
+
+  module _ (e : lacking ≡ true) where
+    pub lacked-read : (bs : List Bool) (q : BitPlace) → answer (Step.Next q) x ≡ unless lacking x there fault c .read bs (q .0)
+    unfolding unless answer
+    lacked-read bs q = rw e
+
+    -- a value that is there is refused
+    pub lacked-check : (y : A) (b : Bool) → there y ≡ b → pick b fault 0 ≡ unless lacking x there fault c .check y
+    unfolding unless
+    lacked-check y b t = rw (e, t)
+
+    pub lacked-size : (y : A) → unless lacking x there fault c .size y ≡ 0
+    unfolding unless
+    lacked-size y = rw e
+
+    pub lacked-writes : (y : A) (s : List ℕ) (p : ℕ) → Writes (unless lacking x there fault c) y s s p p
+    unfolding unless nothing
+    lacked-writes y s p = let w = nothing-writes x y s p in record { bits = rw e (w .bits); ends = rw e (w .ends); next = rw e (w .next) }

@@ -1,12 +1,12 @@
--- A codec seen in the cells of another type, in another shape, or with a test behind it has a codec's laws. Assumes nothing.
+-- A codec seen in the cells of another type, in another shape, with a test behind it, or lacking in an edition has a codec's laws. Assumes nothing.
 use Prim.Native.Nat.{ℕ, _+_, _<_}
 use native.Mathlib.Omega.{arith}
-use mathlib.Core.Path.{_≡_, refl, ap, _∙_, sym, subst⁻¹, subst₂}
+use mathlib.Core.Path.{_≡_, refl, ap, ap₂, _∙_, sym, subst⁻¹, subst₂}
 use mathlib.Core.Bool.{Bool, true, false}
 use mathlib.Core.List.{List, _++_}
 use lib.ListN.{length, drop}
 use Rattle.codec.specs.Answer.{Answer, got, refused, next, pick}
-use Rattle.codec.specs.Codec.{Codec, flag, first, _thenBy_, _&_, viewed, shaped, tested, same, must, _closedBy_}
+use Rattle.codec.specs.Codec.{Codec, flag, first, _thenBy_, _&_, viewed, shaped, tested, unless, same, must, _closedBy_}
 use Rattle.codec.proofs.Lawful.{Accepted, Lawful, never}
 use Rattle.codec.proofs.Fields.{flag-lawful, passed}
 use Rattle.codec.proofs.Sequences.{first-zero, and-lawful}
@@ -98,3 +98,33 @@ closedBy-lawful {c = c} fault hf lc =
     (λ y l. l)
     (λ y l. refl)
     (λ y. rw (lc .judged y))
+
+-- what an edition lacks is legal where it is not there
+not-there : (b : Bool) (fault : ℕ) → 0 < fault → pick b fault 0 ≡ 0 → b ≡ false
+not-there false fault hf l = refl
+not-there true fault hf l = absurd (omega arith)
+
+module _ {A : Type 0} (x : A) (there : A → Bool) (fault : ℕ) (hf : 0 < fault) (c : Codec A) (lc : Lawful c)
+    (absent : there x ≡ false)
+    (cleaned : (y : A) → there y ≡ false → c .norm y ≡ x)
+    (kept : (y : A) → there (c .norm y) ≡ there y) where
+  pub unless-lawful : (lacking : Bool) → Lawful (unless lacking x there fault c)
+  unfolding unless
+  unless-lawful false =
+      record {
+        written = lc .written;
+        accepted = λ bs p q y e. let k = lc .accepted bs p q y e in record { legal = k .legal; clean = k .clean; same = k .same; ends = k .ends };
+        judged = lc .judged;
+        sized = lc .sized;
+      }
+  unless-lawful true =
+      record {
+        written = λ bs rest p y l e. ap₂ got (sym (cleaned y (not-there (there y) fault hf l))) (omega arith);
+        accepted = λ bs p q y e.
+            let ey : x ≡ y = cc in
+            let eq : p ≡ q = cc in
+            let s : Accepted (unless true x there fault c) bs p p x = record { legal = rw absent; clean = cleaned x absent; same = refl; ends = omega arith } in
+            subst₂ (λ z u. Accepted (unless true x there fault c) bs p u z) ey eq s;
+        judged = λ y. ap (λ (b : Bool). pick b fault 0) (kept y);
+        sized = λ y. refl;
+      }

@@ -80,6 +80,18 @@ present x c false = nothing x
 abbrev pub optional : {A : Type 0} → A → Codec A → Codec (Bool × A)
 optional x c = flag thenBy present x c
 
+-- c, unless an edition of the table lacks it: then it has no bits, reading gives x, and a value that is there is refused with fault. Either way the
+-- same cells are unused.
+unfoldable pub unless : {A : Type 0} → Bool → A → (A → Bool) → ℕ → Codec A → Codec A
+unless lacking x there fault c =
+    record {
+      read = λ bs p. pick lacking (got x p) (c .read bs p);
+      write = λ y. pick lacking [] (c .write y);
+      check = λ y. pick lacking (pick (there y) fault 0) (c .check y);
+      norm = c .norm;
+      size = λ y. pick lacking 0 (c .size y);
+    }
+
 -- The values of c in the cells of another type. `from` takes them out of the used cells, `to` puts them into cells of which the unused ones are
 -- 0, `clean` sets the unused cells to 0; `fine` tests what `from` cannot tell, before the rest, and fault is the refusal where it fails.
 unfoldable pub viewed : {A B : Type 0} → (A → B) → (B → A) → (B → B) → (B → Bool) → ℕ → Codec A → Codec B

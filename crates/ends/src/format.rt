@@ -2,13 +2,14 @@
 ghost use mathlib.Core.Path.{_≡_};
 ghost use Prim.Native.Nat.{_+_};
 ghost use Rattle.codec.specs.Writes.{Placed};
-ghost use Rattle.header.specs.Table.{identity, optionalIdentity, format};
-ghost use Rattle.record_octets.specs.Record.{sizeOfIdentity, identityIn, sizeOfOptionalIdentity, optionalIdentityIn, sizeOfFormat, formatIn};
+ghost use Rattle.header.specs.Table.{identity, optionalIdentity, standardVersion, format};
+ghost use Rattle.record_octets.specs.Record.{sizeOfOptionalNumber, optionalNumberIn, sizeOfIdentity, identityIn, sizeOfOptionalIdentity, optionalIdentityIn, sizeOfFormat, formatIn};
 ghost use lib.ListN.{length};
 use crate::texts::end_optional_text;
 use bits::BitPlace;
 use cells::load_flag;
 use flag::end_flag;
+use header::editions::lacks_standard_version;
 use header::layout::FAD;
 use header::layout::FILE;
 use header::layout::MESSAGE_NUMBER;
@@ -50,16 +51,24 @@ pub fn end_optional_identity(at: BitPlace, x: &[u8]) -> BitPlace
     behind
 }
 
-pub fn end_format(at: BitPlace, x: &[u8]) -> BitPlace
-    requires { ⌜ Placed (at .0) (format .size (formatIn (now x))) × (length (now x) ≡ sizeOfFormat) ⌝ }
-    ensures { λ r. ⌜ r .0 ≡ at .0 + format .size (formatIn (now (x .entry))) ⌝ }
+// The message standard version, where the version has it.
+fn end_standard_version(at: BitPlace, version: u32, x: &[u8]) -> BitPlace
+    requires { ⌜ Placed (at .0) (standardVersion version .size (optionalNumberIn (now x))) × (length (now x) ≡ sizeOfOptionalNumber) ⌝ }
+    ensures { λ r. ⌜ r .0 ≡ at .0 + standardVersion version .size (optionalNumberIn (now (x .entry))) ⌝ }
+{
+    let lacking = lacks_standard_version(version);
+    if lacking {
+        return at;
+    }
+    end_optional(at, STANDARD_VERSION, x)
+}
+
+pub fn end_format(at: BitPlace, version: u32, x: &[u8]) -> BitPlace
+    requires { ⌜ Placed (at .0) (format version .size (formatIn (now x))) × (length (now x) ≡ sizeOfFormat) ⌝ }
+    ensures { λ r. ⌜ r .0 ≡ at .0 + format version .size (formatIn (now (x .entry))) ⌝ }
 {
     let at = end_number(at, UMF);
-    let at = end_optional(
-        at,
-        STANDARD_VERSION,
-        &x[in_format::VERSION..in_format::IDENTITY],
-    );
+    let at = end_standard_version(at, version, &x[in_format::VERSION..in_format::IDENTITY]);
     let at = end_optional_identity(at, &x[in_format::IDENTITY..in_format::FILE]);
     end_optional_text(at, FILE, &x[in_format::FILE..in_format::END])
 }

@@ -6,11 +6,11 @@ use lib.Dec.{lit<}
 use native.Mathlib.Omega.{arith}
 use Rattle.codec.specs.Codec.{flag, nothing, first, present, viewed, _thenBy_}
 use Rattle.codec.specs.Lists.{recurs, listed}
-use Rattle.codec.proofs.Bounds.{Bounded, number-bounded, flag-bounded, thenBy-bounded, behind-bounded, and-bounded, present-bounded, optional-bounded, shaped-bounded, tested-bounded, must-bounded, closedBy-bounded, characters-bounded, listed-each, cells-bounded, cells-legal, cells-counted, cells-each}
+use Rattle.codec.proofs.Bounds.{Bounded, number-bounded, flag-bounded, thenBy-bounded, behind-bounded, and-bounded, present-bounded, optional-bounded, shaped-bounded, tested-bounded, must-bounded, closedBy-bounded, characters-bounded, listed-each, cells-bounded, cells-legal, cells-counted, cells-each, unless-bounded}
 use Rattle.optional.specs.Optionals.{optionalNumber}
 use Rattle.text.specs.Texts.{text, noText}
 use Rattle.header.specs.Zero.{noAddress, noAddresses, noDtg, noStamp, noIdentity, noRequests, noResponse, noReference, noReferences, noBlock}
-use Rattle.header.specs.Table.{maybe, optionalText, unitName, address, addresses, originator, recipients, roomBehind, information, front, date, time, dtg, stamp, identity, optionalIdentity, format, codes, handling, optionalStamp, optionalDtg, requests, optionalRequests, times, compliance, response, optionalResponse, reference, references, optionalReferences, block, blocks, wire}
+use Rattle.header.specs.Table.{maybe, optionalText, unitName, address, addresses, originator, recipients, roomBehind, information, front, date, time, dtg, stamp, identity, optionalIdentity, standardVersion, format, codes, handling, optionalStamp, optionalDtg, requests, optionalRequests, times, compliance, response, optionalResponse, reference, references, optionalReferences, block, blocks, wire}
 use Rattle.header.specs.declared.Addresses.{Addresses}
 use Rattle.header.specs.declared.OptionalAddresses.{OptionalAddresses}
 use Rattle.header.specs.declared.Wire.{Wire}
@@ -74,7 +74,7 @@ pub front-bounded : Bounded front 8559
 unfolding front
 front-bounded =
     shaped-bounded _ _
-    (and-bounded (and-bounded (number-bounded 4 2 2 2) (and-bounded (may 2 0 1) originator-bounded))
+    (and-bounded (and-bounded (number-bounded 4 1 2 2) (and-bounded (may 2 0 1) originator-bounded))
     (thenBy-bounded recipients _ (λ g. 1 + suc (roomBehind g - 1) * 475) lists-size (λ g. information-bounded (roomBehind g))))
 
 dtg-bounded : Bounded dtg 33
@@ -93,9 +93,13 @@ unfolding optionalIdentity identity
 identity-bounded =
     shaped-bounded _ _ (optional-bounded noIdentity (shaped-bounded _ _ (and-bounded (number-bounded 4 0 15 3) (and-bounded (number-bounded 7 0 127 3) (may 7 0 127)))))
 
-format-bounded : Bounded format 478
+standard-version-bounded : (version : ℕ) → Bounded (standardVersion version) 5
+unfolding standardVersion
+standard-version-bounded version = unless-bounded _ _ 3 (may 4 0 15) _
+
+format-bounded : (version : ℕ) → Bounded (format version) 478
 unfolding format
-format-bounded = shaped-bounded _ _ (and-bounded (number-bounded 4 0 8 3) (and-bounded (may 4 0 15) (and-bounded identity-bounded (optional-text-bounded 64))))
+format-bounded version = shaped-bounded _ _ (and-bounded (number-bounded 4 0 8 3) (and-bounded (standard-version-bounded version) (and-bounded identity-bounded (optional-text-bounded 64))))
 
 codes-bounded : Bounded codes 8
 unfolding codes
@@ -133,19 +137,19 @@ references-bounded =
     (optional-bounded noReferences (shaped-bounded _ _ (cells-each noReference 4 4 5 (lit< tt) _ (listed-each noReference reference-bounded 3))))
 
 -- a legal block takes so many bits at most
-pub block-bounded : Bounded block 3315
+pub block-bounded : (version : ℕ) → Bounded (block version) 3315
 unfolding block
-block-bounded =
+block-bounded version =
     shaped-bounded _ _
-    (and-bounded (and-bounded format-bounded (and-bounded handling-bounded times-bounded)) (and-bounded response-bounded (closedBy-bounded 7 references-bounded)))
+    (and-bounded (and-bounded (format-bounded version) (and-bounded handling-bounded times-bounded)) (and-bounded response-bounded (closedBy-bounded 7 references-bounded)))
 
-blocks-bounded : Bounded blocks 53056
+blocks-bounded : (version : ℕ) → Bounded (blocks version) 53056
 unfolding blocks
-blocks-bounded = shaped-bounded _ _ (cells-each noBlock 16 16 5 (lit< tt) _ (listed-each noBlock block-bounded 15))
+blocks-bounded version = shaped-bounded _ _ (cells-each noBlock 16 16 5 (lit< tt) _ (listed-each noBlock (block-bounded version) 15))
 
 wire-most : Bounded wire 61632
 unfolding wire
-wire-most = shaped-bounded _ _ (and-bounded front-bounded (and-bounded (may 16 0 65535) blocks-bounded))
+wire-most = shaped-bounded _ _ (behind-bounded front-bounded (λ f. and-bounded (may 16 0 65535) (blocks-bounded (f .version))))
 
 -- document 01's maxima leave no header longer than 8,192 octets, which are 65,536 bits
 pub wire-bounded : (w : Wire) → wire .check w ≡ 0 → wire .size w ≤ 65536

@@ -3,23 +3,24 @@
 use Prim.Native.Nat.{ℕ, suc, _-_, _≤_, _<_, _^_}
 use mathlib.Core.Path.{_≡_, refl, ap}
 use mathlib.Core.Bool.{Bool, true, false, not}
-use lib.Dec.{lit<, lit≤}
+use lib.Dec.{eqb, lit<, lit≤}
 use native.Mathlib.Omega.{arith}
-use Rattle.codec.specs.Codec.{number, flag, tested, must, present, viewed, _thenBy_}
+use Rattle.codec.specs.Codec.{number, flag, tested, must, nothing, present, viewed, _thenBy_, _&_}
 use Rattle.codec.specs.Lists.{recurs, listed, cells}
 use Rattle.codec.proofs.Lawful.{Lawful}
 use Rattle.codec.proofs.Fields.{number-lawful, flag-lawful}
 use Rattle.codec.proofs.Sequences.{thenBy-lawful, and-lawful, present-lawful, optional-lawful}
-use Rattle.codec.proofs.Views.{shaped-lawful, must-lawful, closedBy-lawful}
+use Rattle.codec.proofs.Views.{shaped-lawful, must-lawful, closedBy-lawful, unless-lawful}
 use Rattle.codec.proofs.ListLaws.{recurs-lawful, recurs-norm, listed-lawful, listed-keeps, listed-length, cells-lawful}
 use Rattle.optional.specs.Optionals.{optionalNumber}
 use Rattle.optional.specs.declared.OptionalNumber.{OptionalNumber}
 use Rattle.optional.proofs.Lawful.{optional-number-lawful}
 use Rattle.text.specs.Texts.{noText}
 use Rattle.text.proofs.Lawful.{text-lawful}
-use Rattle.header.specs.Zero.{noAddress, noAddresses, noDtg, noStamp, noIdentity, noRequests, noResponse, noReference, noReferences, noBlock}
-use Rattle.header.specs.Table.{maybe, optionalText, unitName, address, addresses, originator, recipients, roomBehind, information, front, date, time, dtg, stamp, identity, optionalIdentity, format, codes, handling, optionalStamp, optionalDtg, requests, optionalRequests, times, compliance, response, optionalResponse, reference, references, optionalReferences, block, blocks, wire}
+use Rattle.header.specs.Zero.{noNumber, noAddress, noAddresses, noDtg, noStamp, noIdentity, noRequests, noResponse, noReference, noReferences, noBlock}
+use Rattle.header.specs.Table.{maybe, optionalText, unitName, address, addresses, originator, recipients, roomBehind, information, front, date, time, dtg, stamp, identity, optionalIdentity, standardVersion, format, codes, handling, optionalStamp, optionalDtg, requests, optionalRequests, times, compliance, response, optionalResponse, reference, references, optionalReferences, block, blocks, wire}
 use Rattle.header.specs.declared.OptionalAddresses.{OptionalAddresses}
+use Rattle.header.specs.declared.Front.{Front}
 
 -- a number below the limit of its width
 num : (w lo hi fault : ℕ) → 0 < w → hi < 2 ^ w → 0 < fault → Lawful (number w lo hi fault)
@@ -84,7 +85,7 @@ pub front-lawful : Lawful front
 unfolding front
 front-lawful =
     shaped-lawful _ _
-    (and-lawful (and-lawful (num 4 2 2 2 (lit< tt) (lit< tt) (lit< tt)) (and-lawful (may 2 0 1 (lit< tt) (lit< tt)) originator-lawful))
+    (and-lawful (and-lawful (num 4 1 2 2 (lit< tt) (lit< tt) (lit< tt)) (and-lawful (may 2 0 1 (lit< tt) (lit< tt)) originator-lawful))
     (thenBy-lawful recipients _ recipients-lawful (λ g. information-lawful (roomBehind g) (omega arith)) (λ g l. ap information (room-norm g))))
     (λ x. refl)
 
@@ -115,11 +116,21 @@ optional-identity-lawful : Lawful optionalIdentity
 unfolding optionalIdentity
 optional-identity-lawful = shaped-lawful _ _ (optional-lawful noIdentity identity-lawful) (λ x. refl)
 
-format-lawful : Lawful format
+-- without its presence an optional number is the one whose cells are 0
+not-present : (w lo hi : ℕ) (y : OptionalNumber) → y .present ≡ false → maybe w lo hi .norm y ≡ noNumber
+unfolding optionalNumber viewed _thenBy_ flag present nothing noNumber
+not-present w lo hi y e = rw e
+
+standard-version-lawful : (version : ℕ) → Lawful (standardVersion version)
+unfolding standardVersion optionalNumber viewed _thenBy_ flag noNumber
+standard-version-lawful version =
+    unless-lawful noNumber _ 3 (lit< tt) (maybe 4 0 15) (may 4 0 15 (lit< tt) (lit< tt)) refl (not-present 4 0 15) (λ y. refl) (eqb version 1)
+
+format-lawful : (version : ℕ) → Lawful (format version)
 unfolding format
-format-lawful =
+format-lawful version =
     shaped-lawful _ _
-    (and-lawful (num 4 0 8 3 (lit< tt) (lit< tt) (lit< tt)) (and-lawful (may 4 0 15 (lit< tt) (lit< tt)) (and-lawful optional-identity-lawful (optional-text-lawful 64 (lit≤ tt)))))
+    (and-lawful (num 4 0 8 3 (lit< tt) (lit< tt) (lit< tt)) (and-lawful (standard-version-lawful version) (and-lawful optional-identity-lawful (optional-text-lawful 64 (lit≤ tt)))))
     (λ x. refl)
 
 codes-lawful : Lawful codes
@@ -182,23 +193,33 @@ optional-references-lawful : Lawful optionalReferences
 unfolding optionalReferences
 optional-references-lawful = shaped-lawful _ _ (optional-lawful noReferences references-lawful) (λ x. refl)
 
-pub block-lawful : Lawful block
+pub block-lawful : (version : ℕ) → Lawful (block version)
 unfolding block
-block-lawful =
+block-lawful version =
     shaped-lawful _ _
-    (and-lawful (and-lawful format-lawful (and-lawful handling-lawful times-lawful))
+    (and-lawful (and-lawful (format-lawful version) (and-lawful handling-lawful times-lawful))
     (and-lawful optional-response-lawful (closedBy-lawful 7 (lit< tt) optional-references-lawful)))
     (λ x. refl)
 
-blocks-lawful : Lawful blocks
+blocks-lawful : (version : ℕ) → Lawful (blocks version)
 unfolding blocks
-blocks-lawful =
+blocks-lawful version =
+    let b = block version in
+    let lb = block-lawful version in
     shaped-lawful _ _
-    (cells-lawful noBlock 16 16 5 (listed noBlock block 15) (listed-lawful noBlock block block-lawful 15) (lit< tt) (lit≤ tt)
-    (listed-keeps noBlock block block-lawful 15) (listed-length noBlock block block-lawful 15))
+    (cells-lawful noBlock 16 16 5 (listed noBlock b 15) (listed-lawful noBlock b lb 15) (lit< tt) (lit≤ tt) (listed-keeps noBlock b lb 15) (listed-length noBlock b lb 15))
     (λ x. refl)
+
+-- the version has no unused cell
+version-norm : (f : Front) → front .norm f .version ≡ f .version
+unfolding front viewed _thenBy_ number
+version-norm f = refl
 
 -- the whole header
 pub wire-lawful : Lawful wire
 unfolding wire
-wire-lawful = shaped-lawful _ _ (and-lawful front-lawful (and-lawful (may 16 0 65535 (lit< tt) (lit< tt)) blocks-lawful)) (λ x. refl)
+wire-lawful =
+    shaped-lawful _ _
+    (thenBy-lawful front _ front-lawful (λ f. and-lawful (may 16 0 65535 (lit< tt) (lit< tt)) (blocks-lawful (f .version)))
+    (λ f l. ap (λ (v : ℕ). maybe 16 0 65535 & blocks v) (version-norm f)))
+    (λ x. refl)

@@ -27,10 +27,10 @@ pub references-legal : (x : OptionalReferences) → x .present ≡ true → opti
 unfolding optionalReferences viewed _thenBy_ flag first
 references-legal x e h = present-legal noReferences references (x .present) (x .references) e h
 
-pub block-references : (x : Block) → block .check x ≡ 0 → optionalReferences .check (x .references) ≡ 0
+pub block-references : (version : ℕ) (x : Block) → block version .check x ≡ 0 → optionalReferences .check (x .references) ≡ 0
 unfolding block viewed _thenBy_ _closedBy_ tested flag
-block-references x h =
-    let a = first-zero (first (format .check (x .format)) (first (handling .check (x .handling)) (times .check (x .times)))) _ h in
+block-references version x h =
+    let a = first-zero (first (format version .check (x .format)) (first (handling .check (x .handling)) (times .check (x .times)))) _ h in
     let b = first-zero (optionalResponse .check (x .response)) _ (a .1) in
     first-zero (optionalReferences .check (x .references)) _ (b .1) .0
 
@@ -91,8 +91,8 @@ module _ (n : ℕ) (le : n ≤ 16) where
 
 pub front-recipients : (x : Front) → front .check x ≡ 0 → recipients .check (x .recipients) ≡ 0
 unfolding front viewed _thenBy_
-front-recipients x h = first-zero (recipients .check (x .recipients)) _ (first-zero (first (number 4 2 2 2 .check (x .version)) (first (maybe 2 0 1 .check (x .compression)) (originator .check (x .originator)))) _ h .1) .0
+front-recipients x h = first-zero (recipients .check (x .recipients)) _ (first-zero (first (number 4 1 2 2 .check (x .version)) (first (maybe 2 0 1 .check (x .compression)) (originator .check (x .originator)))) _ h .1) .0
 
 pub front-information : (x : Front) → front .check x ≡ 0 → information (roomBehind (x .recipients)) .check (x .information) ≡ 0
 unfolding front viewed _thenBy_
-front-information x h = first-zero (recipients .check (x .recipients)) _ (first-zero (first (number 4 2 2 2 .check (x .version)) (first (maybe 2 0 1 .check (x .compression)) (originator .check (x .originator)))) _ h .1) .1
+front-information x h = first-zero (recipients .check (x .recipients)) _ (first-zero (first (number 4 1 2 2 .check (x .version)) (first (maybe 2 0 1 .check (x .compression)) (originator .check (x .originator)))) _ h .1) .1

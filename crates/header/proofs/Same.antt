@@ -2,18 +2,19 @@
 use Prim.Native.Nat.{ℕ, zero, suc, _-_}
 use mathlib.Core.Path.{_≡_, refl, ap, sym, _∙_}
 use mathlib.Core.Bool.{Bool, true, false, not}
-use Rattle.codec.specs.Codec.{number, flag, tested, must, viewed, present, _thenBy_}
+use Rattle.codec.specs.Codec.{number, flag, tested, unless, must, viewed, present, _thenBy_}
 use Rattle.codec.specs.Characters.{characters}
 use Rattle.codec.specs.Lists.{recurs, nonEmpty, listed, cells}
 use Rattle.codec.proofs.ListLaws.{recurs-norm, listed-keeps}
-use Rattle.codec.proofs.Agrees.{Agrees, exact-agrees, number-agrees, characters-agrees, thenBy-agrees, and-agrees, present-agrees, optional-agrees, shaped-agrees, tested-agrees, closedBy-agrees, listed-agrees, cells-agrees}
+use Rattle.codec.proofs.Agrees.{Agrees, exact-agrees, number-agrees, characters-agrees, thenBy-agrees, and-agrees, present-agrees, optional-agrees, shaped-agrees, tested-agrees, unless-agrees, closedBy-agrees, listed-agrees, cells-agrees}
 use Rattle.optional.specs.Optionals.{optionalNumber}
 use Rattle.text.specs.Texts.{text, noText}
 use Rattle.header.specs.Zero.{noAddress, noAddresses, noDtg, noStamp, noIdentity, noRequests, noResponse, noReference, noReferences, noBlock}
-use Rattle.header.specs.Table.{maybe, optionalText, unitName, address, addresses, originator, recipients, roomBehind, information, front, date, time, dtg, stamp, identity, optionalIdentity, format, codes, handling, optionalStamp, optionalDtg, requests, optionalRequests, times, compliance, response, optionalResponse, reference, references, optionalReferences, block, blocks}
+use Rattle.header.specs.Table.{maybe, optionalText, unitName, address, addresses, originator, recipients, roomBehind, information, front, date, time, dtg, stamp, identity, optionalIdentity, standardVersion, format, codes, handling, optionalStamp, optionalDtg, requests, optionalRequests, times, compliance, response, optionalResponse, reference, references, optionalReferences, block, blocks}
 use Rattle.header.specs.Same.{sameNumber, sameText, sameOptionalText, sameAddress, sameAddresses, sameOptionalAddress, sameOptionalAddresses, sameFront, sameOptionalDtg, sameStamp, sameOptionalStamp, sameIdentity, sameOptionalIdentity, sameFormat, sameHandling, sameOptionalRequests, sameTimes, sameCompliance, sameResponse, sameOptionalResponse, sameReference, sameReferences, sameOptionalReferences, sameBlock, sameBlocks, Same, headerNorm}
 use Rattle.header.specs.declared.Addresses.{Addresses}
 use Rattle.header.specs.declared.OptionalAddresses.{OptionalAddresses}
+use Rattle.header.specs.declared.Blocks.{Blocks}
 use Rattle.header.specs.declared.Header.{Header}
 use Rattle.header.proofs.Lawful.{address-lawful, reference-lawful, block-lawful}
 
@@ -72,7 +73,7 @@ front-agrees : Agrees front sameFront
 unfolding front sameFront
 front-agrees =
     shaped-agrees _ _
-    (and-agrees (and-agrees (number-agrees 4 2 2 2) (and-agrees (may 2 0 1) originator-agrees))
+    (and-agrees (and-agrees (number-agrees 4 1 2 2) (and-agrees (may 2 0 1) originator-agrees))
     (thenBy-agrees recipients-agrees (λ g. information-agrees (roomBehind g)) (λ g h y. information-norm (roomBehind g) y ∙ sym (information-norm (roomBehind h) y))))
     (λ x. refl)
 
@@ -93,10 +94,14 @@ optional-identity-agrees : Agrees optionalIdentity sameOptionalIdentity
 unfolding optionalIdentity sameOptionalIdentity
 optional-identity-agrees = shaped-agrees _ _ (optional-agrees noIdentity identity-agrees) (λ x. refl)
 
-format-agrees : Agrees format sameFormat
+standard-version-agrees : (version : ℕ) → Agrees (standardVersion version) sameNumber
+unfolding standardVersion
+standard-version-agrees version = unless-agrees _ _ _ 3 (may 4 0 15)
+
+format-agrees : (version : ℕ) → Agrees (format version) sameFormat
 unfolding format sameFormat
-format-agrees =
-    shaped-agrees _ _ (and-agrees (number-agrees 4 0 8 3) (and-agrees (may 4 0 15) (and-agrees optional-identity-agrees (optional-text-agrees 64)))) (λ x. refl)
+format-agrees version =
+    shaped-agrees _ _ (and-agrees (number-agrees 4 0 8 3) (and-agrees (standard-version-agrees version) (and-agrees optional-identity-agrees (optional-text-agrees 64)))) (λ x. refl)
 
 codes-agrees : Agrees codes _≡_
 unfolding codes viewed _thenBy_ number
@@ -151,25 +156,35 @@ optional-references-agrees : Agrees optionalReferences sameOptionalReferences
 unfolding optionalReferences sameOptionalReferences
 optional-references-agrees = shaped-agrees _ _ (optional-agrees noReferences references-agrees) (λ x. refl)
 
-block-agrees : Agrees block sameBlock
+block-agrees : (version : ℕ) → Agrees (block version) sameBlock
 unfolding block sameBlock
-block-agrees =
+block-agrees version =
     shaped-agrees _ _
-    (and-agrees (and-agrees format-agrees (and-agrees handling-agrees times-agrees)) (and-agrees optional-response-agrees (closedBy-agrees 7 optional-references-agrees)))
+    (and-agrees (and-agrees (format-agrees version) (and-agrees handling-agrees times-agrees)) (and-agrees optional-response-agrees (closedBy-agrees 7 optional-references-agrees)))
     (λ x. refl)
 
-blocks-agrees : Agrees blocks sameBlocks
+blocks-agrees : (version : ℕ) → Agrees (blocks version) sameBlocks
 unfolding blocks sameBlocks
-blocks-agrees = shaped-agrees _ _ (cells-agrees noBlock 16 16 5 (listed-agrees noBlock block-agrees 15) (listed-keeps noBlock block block-lawful 15)) (λ x. refl)
+blocks-agrees version =
+    shaped-agrees _ _ (cells-agrees noBlock 16 16 5 (listed-agrees noBlock (block-agrees version) 15) (listed-keeps noBlock (block version) (block-lawful version) 15)) (λ x. refl)
+
+-- the same cells are unused in every version
+pub blocks-norm : (v w : ℕ) (g : Blocks) → blocks v .norm g ≡ blocks w .norm g
+unfolding blocks viewed cells listed block _thenBy_ format standardVersion unless
+blocks-norm v w g = refl
 
 -- records that become equal once their unused cells are 0 are the same
 pub norm-same : (x y : Header) → headerNorm x ≡ headerNorm y → Same x y
 unfolding headerNorm Same
 norm-same x y e =
-    (front-agrees .told (x .front) (y .front) (ap (λ h. h .front) e), (ap (λ h. h .sized) e, blocks-agrees .told (x .blocks) (y .blocks) (ap (λ h. h .blocks) e)))
+    let v = x .front .version in
+    let b = ap (λ h. h .blocks) e ∙ blocks-norm (y .front .version) v (y .blocks) in
+    (front-agrees .told (x .front) (y .front) (ap (λ h. h .front) e), (ap (λ h. h .sized) e, blocks-agrees v .told (x .blocks) (y .blocks) b))
 
 -- and the other way round
 pub same-norm : (x y : Header) → Same x y → headerNorm x ≡ headerNorm y
 unfolding headerNorm Same
 same-norm x y s =
-    λ i. record { front = front-agrees .made (x .front) (y .front) (s .0) i; sized = s .1 .0 i; blocks = blocks-agrees .made (x .blocks) (y .blocks) (s .1 .1) i }
+    let v = x .front .version in
+    let b = blocks-agrees v .made (x .blocks) (y .blocks) (s .1 .1) ∙ blocks-norm v (y .front .version) (y .blocks) in
+    λ i. record { front = front-agrees .made (x .front) (y .front) (s .0) i; sized = s .1 .0 i; blocks = b i }

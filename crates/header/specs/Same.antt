@@ -129,6 +129,6 @@ sameBlocks x y = sameArray (Forall₂ sameBlock) (x .list, x .count) (y .list, y
 unfoldable pub Same : Header → Header → Type 0
 Same x y = sameFront (x .front) (y .front) and x .sized ≡ y .sized and sameBlocks (x .blocks) (y .blocks)
 
--- the record with its unused cells 0
+-- the record with its unused cells 0, which are the same cells in both versions
 unfoldable pub headerNorm : Header → Header
-headerNorm h = record { front = front .norm (h .front); sized = h .sized; blocks = blocks .norm (h .blocks) }
+headerNorm h = record { front = front .norm (h .front); sized = h .sized; blocks = blocks (h .front .version) .norm (h .blocks) }

@@ -1,13 +1,14 @@
--- Table I, as one codec: every field in the table's order, `optional` for a presence bit and what follows it.
+-- Table I, as one codec for versions 1 and 2: every field in the table's order, `optional` for a presence bit and what follows it.
 use Prim.Native.Nat.{ℕ, suc, _-_}
 use mathlib.Core.Bool.{Bool, not}
+use lib.Dec.{eqb}
 use Rattle.codec.specs.Answer.{pick}
-use Rattle.codec.specs.Codec.{Codec, number, flag, must, optional, present, shaped, _&_, _thenBy_, _closedBy_}
+use Rattle.codec.specs.Codec.{Codec, number, flag, must, optional, present, unless, shaped, _&_, _thenBy_, _closedBy_}
 use Rattle.codec.specs.Lists.{recurs, listed, cells}
 use Rattle.optional.specs.declared.OptionalNumber.{OptionalNumber}
 use Rattle.optional.specs.Optionals.{optionalNumber}
 use Rattle.text.specs.Texts.{text, noText}
-use Rattle.header.specs.Zero.{noAddress, noAddresses, noDtg, noStamp, noIdentity, noRequests, noResponse, noReference, noReferences, noBlock}
+use Rattle.header.specs.Zero.{noNumber, noAddress, noAddresses, noDtg, noStamp, noIdentity, noRequests, noResponse, noReference, noReferences, noBlock}
 use Rattle.header.specs.declared.OptionalText.{OptionalText}
 use Rattle.header.specs.declared.Address.{Address}
 use Rattle.header.specs.declared.OptionalAddress.{OptionalAddress}
@@ -84,7 +85,7 @@ front =
     shaped
     (λ x. record { version = x .0 .0; compression = x .0 .1 .0; originator = x .0 .1 .1; recipients = x .1 .0; information = x .1 .1 })
     (λ y. ((y .version, (y .compression, y .originator)), (y .recipients, y .information)))
-    ((number 4 2 2 2 & maybe 2 0 1 & originator) & (recipients thenBy (λ g. information (roomBehind g))))
+    ((number 4 1 2 2 & maybe 2 0 1 & originator) & (recipients thenBy (λ g. information (roomBehind g))))
 
 -- year 7, month 4, day 5
 unfoldable pub date : Codec Date
@@ -108,13 +109,17 @@ identity = shaped (λ x. record { fad = x .0; number = x .1 .0; subtype = x .1 .
 unfoldable pub optionalIdentity : Codec OptionalIdentity
 optionalIdentity = shaped (λ x. record { present = x .0; identity = x .1 }) (λ y. (y .present, y .identity)) (optional noIdentity identity)
 
--- UMF 4; [standard version 4]; [G4]; [file name 64]
-unfoldable pub format : Codec Format
-format =
+-- [standard version 4], which version 1 lacks: a record of version 1 that has it is refused with 3
+unfoldable pub standardVersion : ℕ → Codec OptionalNumber
+standardVersion version = unless (eqb version 1) noNumber (λ y. y .present) 3 (maybe 4 0 15)
+
+-- UMF 4; [standard version 4], not in version 1; [G4]; [file name 64]
+unfoldable pub format : ℕ → Codec Format
+format version =
     shaped
     (λ x. record { umf = x .0; version = x .1 .0; identity = x .1 .1 .0; file = x .1 .1 .1 })
     (λ y. (y .umf, (y .version, (y .identity, y .file))))
-    (number 4 0 8 3 & maybe 4 0 15 & optionalIdentity & optionalText 64)
+    (number 4 0 8 3 & standardVersion version & optionalIdentity & optionalText 64)
 
 -- operation 2; retransmit 1; precedence 3; classification 2
 unfoldable pub codes : Codec Codes
@@ -174,18 +179,22 @@ references = shaped (λ x. record { list = x .0; count = x .1 }) (λ y. (y .list
 unfoldable pub optionalReferences : Codec OptionalReferences
 optionalReferences = shaped (λ x. record { present = x .0; references = x .1 }) (λ y. (y .present, y .references)) (optional noReferences references)
 
--- a message block, behind its recurrence bit; the presence bit of G10 has to be 0
-unfoldable pub block : Codec Block
-block =
+-- a message block of a header of that version, behind its recurrence bit; the presence bit of G10 has to be 0
+unfoldable pub block : ℕ → Codec Block
+block version =
     shaped
     (λ x. record { format = x .0 .0; handling = x .0 .1 .0; times = x .0 .1 .1; response = x .1 .0; references = x .1 .1 })
     (λ y. ((y .format, (y .handling, y .times)), (y .response, y .references)))
-    ((format & handling & times) & (optionalResponse & (optionalReferences closedBy 7)))
+    ((format version & handling & times) & (optionalResponse & (optionalReferences closedBy 7)))
 
 -- 1 to 16 message blocks
-unfoldable pub blocks : Codec Blocks
-blocks = shaped (λ x. record { list = x .0; count = x .1 }) (λ y. (y .list, y .count)) (cells noBlock 16 16 5 (listed noBlock block 15))
+unfoldable pub blocks : ℕ → Codec Blocks
+blocks version = shaped (λ x. record { list = x .0; count = x .1 }) (λ y. (y .list, y .count)) (cells noBlock 16 16 5 (listed noBlock (block version) 15))
 
--- the whole of Table I: the fields up to G3; [header size 16]; the message blocks
+-- the whole of Table I: the fields up to G3; [header size 16]; the message blocks, laid out by the version that stands first
 unfoldable pub wire : Codec Wire
-wire = shaped (λ x. record { front = x .0; size = x .1 .0; blocks = x .1 .1 }) (λ y. (y .front, (y .size, y .blocks))) (front & maybe 16 0 65535 & blocks)
+wire =
+    shaped
+    (λ x. record { front = x .0; size = x .1 .0; blocks = x .1 .1 })
+    (λ y. (y .front, (y .size, y .blocks)))
+    (front thenBy (λ f. maybe 16 0 65535 & blocks (f .version)))

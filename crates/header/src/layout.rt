@@ -3,7 +3,7 @@ use number::Range;
 
 pub const VERSION: Range = Range {
     width: 4,
-    least: 2,
+    least: 1,
     most: 2,
 };
 

@@ -6,13 +6,13 @@ use mathlib.Core.List.{List, []}
 use lib.Dec.{leb}
 use Rattle.bits.specs.Units.{datagramLimit}
 use Rattle.codec.specs.Answer.{pick}
-use Rattle.codec.specs.Codec.{Codec, number, flag, nothing, first, within, _thenBy_, _&_, present, optional, viewed, shaped, tested, must, _closedBy_}
+use Rattle.codec.specs.Codec.{Codec, number, flag, nothing, first, within, _thenBy_, _&_, present, optional, viewed, shaped, tested, unless, must, _closedBy_}
 use Rattle.codec.specs.Characters.{characters, legalCharacters}
 use Rattle.codec.specs.Lists.{recurs, listed, cells}
 use Rattle.optional.specs.Optionals.{optionalNumber}
 use Rattle.text.specs.Texts.{text, noText}
 use Rattle.header.specs.Zero.{noAddress, noAddresses, noDtg, noStamp, noIdentity, noRequests, noResponse, noReference, noReferences, noBlock}
-use Rattle.header.specs.Table.{maybe, optionalText, unitName, address, addresses, originator, recipients, roomBehind, information, front, date, time, dtg, stamp, identity, optionalIdentity, format, codes, handling, optionalStamp, optionalDtg, requests, optionalRequests, times, compliance, response, optionalResponse, reference, references, optionalReferences, block, blocks}
+use Rattle.header.specs.Table.{maybe, optionalText, unitName, address, addresses, originator, recipients, roomBehind, information, front, date, time, dtg, stamp, identity, optionalIdentity, standardVersion, format, codes, handling, optionalStamp, optionalDtg, requests, optionalRequests, times, compliance, response, optionalResponse, reference, references, optionalReferences, block, blocks}
 use Rattle.header.specs.Rules.{rulesKept}
 use Rattle.header.specs.Sizes.{sizesRight}
 use Rattle.header.specs.declared.Header.{Header}
@@ -74,6 +74,10 @@ module _ (P : ℕ → Type 0) (none-given : P 0) where
   tested-gives : {A : Type 0} (test : A → Bool) (fault : ℕ) → P fault → {c : Codec A} → Gives c → Gives (tested test fault c)
   unfolding tested
   tested-gives test fault hf mc = record { gives = λ x. first-gives (mc .gives x) (test-gives (test x) fault hf) }
+
+  unless-gives : {A : Type 0} (lacking : Bool) (x : A) (there : A → Bool) (fault : ℕ) → P fault → {c : Codec A} → Gives c → Gives (unless lacking x there fault c)
+  unfolding unless
+  unless-gives lacking x there fault hf mc = record { gives = λ y. pick-gives lacking (pick-gives (there y) hf none-given) (mc .gives y) }
 
   must-gives : (b : Bool) (fault : ℕ) → P fault → Gives (must b fault)
   must-gives b fault hf = tested-gives _ fault hf flag-gives
@@ -166,16 +170,20 @@ module _ (P : ℕ → Type 0) (none-given : P 0) where
       unfolding front
       front-gives =
           shaped-gives _ _
-          (and-gives (and-gives (number-gives 4 2 2 2 version-given) (and-gives (may 2 0 1) originator-gives))
+          (and-gives (and-gives (number-gives 4 1 2 2 version-given) (and-gives (may 2 0 1) originator-gives))
           (behind-gives recipients-gives (λ g. information-gives (roomBehind g))))
 
       identity-gives : Gives optionalIdentity
       unfolding optionalIdentity identity
       identity-gives = shaped-gives _ _ (optional-gives noIdentity (shaped-gives _ _ (and-gives (num 4 0 15) (and-gives (num 7 0 127) (may 7 0 127)))))
 
-      format-gives : Gives format
+      standard-version-gives : (version : ℕ) → Gives (standardVersion version)
+      unfolding standardVersion
+      standard-version-gives version = unless-gives _ _ _ 3 code-given (may 4 0 15)
+
+      format-gives : (version : ℕ) → Gives (format version)
       unfolding format
-      format-gives = shaped-gives _ _ (and-gives (num 4 0 8) (and-gives (may 4 0 15) (and-gives identity-gives (optional-text-gives 64))))
+      format-gives version = shaped-gives _ _ (and-gives (num 4 0 8) (and-gives (standard-version-gives version) (and-gives identity-gives (optional-text-gives 64))))
 
       codes-gives : Gives codes
       unfolding codes
@@ -209,19 +217,19 @@ module _ (P : ℕ → Type 0) (none-given : P 0) where
       unfolding optionalReferences references
       references-gives = shaped-gives _ _ (optional-gives noReferences (shaped-gives _ _ (cells-gives noReference 4 4 5 count-given (listed-gives noReference reference-gives 3))))
 
-      block-gives : Gives block
+      block-gives : (version : ℕ) → Gives (block version)
       unfolding block
-      block-gives =
+      block-gives version =
           shaped-gives _ _
-          (and-gives (and-gives format-gives (and-gives handling-gives times-gives)) (and-gives response-gives (closedBy-gives 7 security-given references-gives)))
+          (and-gives (and-gives (format-gives version) (and-gives handling-gives times-gives)) (and-gives response-gives (closedBy-gives 7 security-given references-gives)))
 
-      blocks-gives : Gives blocks
+      blocks-gives : (version : ℕ) → Gives (blocks version)
       unfolding blocks
-      blocks-gives = shaped-gives _ _ (cells-gives noBlock 16 16 5 count-given (listed-gives noBlock block-gives 15))
+      blocks-gives version = shaped-gives _ _ (cells-gives noBlock 16 16 5 count-given (listed-gives noBlock (block-gives version) 15))
 
       pub fault-gives : (h : Header) (count : ℕ) → P (faultOf h count)
       unfolding faultOf
       fault-gives h count =
-          first-gives (first-gives (front-gives .gives (h .front)) (blocks-gives .gives (h .blocks)))
+          first-gives (first-gives (front-gives .gives (h .front)) (blocks-gives (h .front .version) .gives (h .blocks)))
           (first-gives (test-gives (rulesKept h) 8 rule-given)
           (first-gives (test-gives (sizesRight (h .blocks) count) 10 size-given) (test-gives (leb (headerSize h + count) datagramLimit) 12 long-given)))

@@ -84,8 +84,8 @@ module _ (h : Header) (f : fieldsFault h ≡ 0) where
   blocks-fit : h .blocks .count ≤ length (h .blocks .list)
   unfolding blocks viewed
   blocks-fit =
-      let g = first-zero (front .check (h .front)) (blocks .check (h .blocks)) f .1 in
-      omega (arith, whole-array noBlock block 16 15 (h .blocks .list) (h .blocks .count) g, count-most noBlock block 16 15 (h .blocks .list) (h .blocks .count) g)
+      let g = first-zero (front .check (h .front)) (blocks (h .front .version) .check (h .blocks)) f .1 in
+      omega (arith, whole-array noBlock (block (h .front .version)) 16 15 (h .blocks .list) (h .blocks .count) g, count-most noBlock (block (h .front .version)) 16 15 (h .blocks .list) (h .blocks .count) g)
 
   from-legal : h .front .originator .present ≡ true → address .check (h .front .originator .address) ≡ 0
   from-legal = front-originator (h .front) front-legal

@@ -1,8 +1,8 @@
-// What the rules look at in a record beside its blocks.
+// What a record's blocks are judged by beside themselves: its version, and what the rules look at.
 ghost use mathlib.Core.Path.{_≡_};
 ghost use lib.ListN.{length};
 ghost use Rattle.header.specs.Rules.{settingOf};
-ghost use Rattle.record_octets.specs.Record.{sizeOfHeader, headerIn};
+ghost use Rattle.record_octets.specs.Record.{sizeOfFront, frontIn, sizeOfHeader, headerIn};
 use cells::load_flag;
 use cells::load_word;
 use header::Setting;
@@ -11,6 +11,14 @@ use record_octets::in_front;
 use record_octets::in_header;
 use record_octets::in_optional_address;
 use record_octets::in_optional_number;
+
+// The version that stands first among a record's fields up to G3.
+pub fn front_version(x: &[u8]) -> u32
+    requires { ⌜ length (now x) ≡ sizeOfFront ⌝ }
+    ensures { λ r. ⌜ r ≡ frontIn (now (x .entry)) .version ⌝ }
+{
+    load_word(&x[in_front::VERSION..in_front::COMPRESSION])
+}
 
 pub fn has_compression(h: &[u8]) -> bool
     requires { ⌜ length (now h) ≡ sizeOfHeader ⌝ }

@@ -6,6 +6,7 @@ mod draft;
 mod groups;
 mod headers;
 mod summary;
+mod versions;
 
 use draft::Draft;
 use groups::answer;
@@ -35,6 +36,7 @@ use headers::to_name;
 use headers::to_name_and_urn;
 use libc::STDOUT_FILENO;
 use summary::Summary;
+use versions::every_group;
 
 fn print(text: &[u8]) {
     io::write_all(STDOUT_FILENO, text);
@@ -66,6 +68,7 @@ fn print_accepted(s: Summary) {
     part(b" information ", s.information, 0);
     part(b" blocks ", s.blocks, 1);
     part(b" references ", s.references, 0);
+    part(b" standard version ", s.standard, 16);
     print(b"\n");
 }
 
@@ -116,11 +119,11 @@ fn octets_a() {
     tell(b"A ending in 01", b"\x02\x08\x00\x00\x01\x07");
 }
 
-// Document 01's other octets: none, an illegal version, B, which is a message to one recipient, and C, the
+// Document 01's other octets: none, a version that is not legal, B, which is a message to one recipient, and C, the
 // receipt for it. B and C have 16 octets.
 fn octets_b_and_c() {
     tell(b"no octets", b"");
-    tell(b"01", b"\x01");
+    tell(b"03", b"\x03");
     let b = b"\xE2\x67\x00\x00\x1D\x00\x00\x00\x01\x00\xC1\x37\xE0\x76\x33\x00\x01";
     tell(b"B and an octet", b);
     let c = b"\xE2\x01\x00\x00\x7D\x06\x00\x00\x01\x00\x08\xBE\x01\xB7\x5B\x00";
@@ -250,6 +253,7 @@ fn minutes() {
 
 // Version, compression and UMF: 2 or 3 at the field's first bit.
 fn codes() {
+    with_data(b"version 0", compressed(0, 0), 1);
     with_data(b"version 3", compressed(3, 0), 1);
     with_data(b"version 15", compressed(15, 0), 1);
     with_data(b"compression 1", compressed(2, 1), 1);
@@ -258,6 +262,55 @@ fn codes() {
     // 27 + 6 = 33 bits in 5 octets. UMF stands at 10.
     with_data(b"UMF 8", handled(8).absent(6), 1);
     with_data(b"UMF 9", handled(9).absent(6), 1);
+}
+
+// Document 01's octets A in version 1: G4's indicator stands at 14, where version 2 has that of the standard version,
+// and G10's, the last bit, at 31.
+fn old_octets_a() {
+    tell(b"version 1, A and an octet", b"\x01\x08\x00\x00\x07");
+    tell(b"version 1, A alone", b"\x01\x08\x00\x00");
+    tell(b"version 1, A ending in 80", b"\x01\x08\x00\x80\x07");
+    // 8 bits: the header size's indicator, 8, is missing.
+    tell(b"version 1, A cut to 1", b"\x01");
+    // 24 bits: precedence 20 to 22 is there, of classification, 23 and 24, one bit is missing.
+    tell(b"version 1, A cut to 3", b"\x01\x08\x00");
+    with_data(b"version 1, minute 59", versions::dated(59), 1);
+    with_data(b"version 1, minute 60", versions::dated(60), 1);
+    with_data(b"version 1, every group", every_group(59), 1);
+    with_data(b"version 1, every group, size 60", every_group(60), 1);
+}
+
+// Octets B and the example of the standard, Table XVIII, which has a name behind a URN.
+fn old_octets_b() {
+    // The presence bit of the standard version, 67, is not there: 123 - 1 = 122 bits in 16 octets, G5's indicator at 79,
+    // G7's at 115, the machine request at 116.
+    let b = b"\xE1\x67\x00\x00\x1D\x00\x00\x00\x01\x80\xE0\x1B\x70\xBB\x19\x00\x01";
+    tell(b"version 1, B and an octet", b);
+    // Bit 31, the high bit of the fourth octet, is the name's indicator.
+    let t =
+        b"\xE1\x67\x00\x80\x55\x67\x92\x1A\xFC\x77\x00\x00\x00\xA4\x04\x10\x21\xF8\x06\xDC\x6E\x06";
+    tell(b"Table XVIII", t);
+}
+
+// Bits of one version behind the number of the other: the bit at 14 or 67 is another field.
+fn moved_bits() {
+    // Version 1: G4 14, FAD 2 in 15 to 18, number 8 in 19 to 25, 18 more: 44 bits in 6 octets. Version 2: standard version
+    // 14, its number 2 in 15 to 18, no G4 19, operation 1 in 22 and 23, G10 36: 37 bits in 5 octets.
+    tell(b"version 1 with G4", b"\x01\x48\x41\x00\x00\x00\x07");
+    tell(b"the same with 2 in front", b"\x02\x48\x41\x00\x00\x00\x07");
+    // Standard version 15 in version 2, FAD 15 in version 1.
+    tell(
+        b"version 2 with standard version",
+        b"\x02\xC8\x07\x00\x00\x00\x07",
+    );
+    tell(b"the same with 1 in front", b"\x01\xC8\x07\x00\x00\x00\x07");
+    // In version 1 the bit of G5, 80, is that of G6, and that of G7, 116, is that of G9: recurrence 117, and neither form
+    // of an address at 118 and 119.
+    let b = b"\xE1\x67\x00\x00\x1D\x00\x00\x00\x01\x00\xC1\x37\xE0\x76\x33\x00\x01";
+    tell(b"B with 1 in front", b);
+    // In version 2 the bit of G5, 79, is that of the marking, whose text from 80 finds no marker in 136 bits.
+    let b = b"\xE2\x67\x00\x00\x1D\x00\x00\x00\x01\x80\xE0\x1B\x70\xBB\x19\x00\x01";
+    tell(b"version 1's B with 2 in front", b);
 }
 
 // R/C stands at 65.
@@ -424,6 +477,9 @@ fn main() {
     times();
     minutes();
     codes();
+    old_octets_a();
+    old_octets_b();
+    moved_bits();
     receipt_codes();
     short_numbers();
     short_texts();

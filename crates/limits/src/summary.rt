@@ -5,6 +5,7 @@ ghost use lib.ListN.{length};
 ghost use Rattle.record_octets.specs.Record.{sizeOfOptionalAddresses, sizeOfHeader};
 use cells::load_word;
 use codec::Fault;
+use leaves::numbers::load_optional;
 use leaves::setting::block_count;
 use reader::Outcome;
 use record_octets::RECORD;
@@ -12,6 +13,7 @@ use record_octets::in_address;
 use record_octets::in_addresses;
 use record_octets::in_block;
 use record_octets::in_blocks;
+use record_octets::in_format;
 use record_octets::in_front;
 use record_octets::in_header;
 use record_octets::in_optional_address;
@@ -23,7 +25,7 @@ use record_octets::in_text;
 
 // The refusal's number and place, number 0 where the datagram is accepted; the octets of the header and
 // of the user data; the length of the originator's name, and the counts of the lists, the references those
-// of the first block. Of a refused datagram only the first two mean anything.
+// of the first block; and its standard version, 16 where it has none. Of a refused datagram only the first two mean anything.
 pub struct Summary {
     pub number: u64,
     pub place: u64,
@@ -34,6 +36,7 @@ pub struct Summary {
     pub information: u64,
     pub blocks: u64,
     pub references: u64,
+    pub standard: u64,
 }
 
 // Document 01's number of a fault.
@@ -105,6 +108,21 @@ fn references(h: &[u8]) -> u32
     load_word(&list[in_references::COUNT..in_references::END])
 }
 
+// The first block's standard version, 16 for none.
+fn standard_version(h: &[u8]) -> u32
+    requires { ⌜ length (now h) ≡ sizeOfHeader ⌝ }
+{
+    let blocks = &h[in_header::BLOCKS..in_header::END];
+    let first = &blocks[in_blocks::LIST..in_blocks::ENTRY];
+    let format = &first[in_block::FORMAT..in_block::HANDLING];
+    let n = load_optional(&format[in_format::VERSION..in_format::IDENTITY]);
+    let present = n.present;
+    if present {
+        return n.value;
+    }
+    16
+}
+
 fn refused(fault: Fault, place: u64) -> Summary
     ensures { λ r. ⌜ r .number ≤ 12 ⌝ }
 {
@@ -118,6 +136,7 @@ fn refused(fault: Fault, place: u64) -> Summary
         information: 0,
         blocks: 0,
         references: 0,
+        standard: 16,
     }
 }
 
@@ -135,6 +154,7 @@ fn accepted(h: &[u8; RECORD], header: u64, data: u64) -> Summary
         information: wide(information(h)),
         blocks: wide(block_count(h)),
         references: wide(references(h)),
+        standard: wide(standard_version(h)),
     }
 }
 

@@ -45,11 +45,15 @@ pub fn stamp(n: Numbers) -> Stamp {
     }
 }
 
-fn format(x: &mut [u8])
+fn format(x: &mut [u8], n: Numbers)
     requires { ⌜ length (now x) ≡ sizeOfFormat ⌝ }
 {
+    let standard = OptionalNumber {
+        present: n[WITH_STANDARD] != ABSENT,
+        value: n[WITH_STANDARD],
+    };
     store_word(&mut x[in_format::UMF..in_format::VERSION], 2);
-    flag(&mut x[in_format::VERSION..in_format::IDENTITY], false);
+    number(&mut x[in_format::VERSION..in_format::IDENTITY], standard);
     flag(&mut x[in_format::IDENTITY..in_format::FILE], false);
     flag(&mut x[in_format::FILE..in_format::END], false);
 }
@@ -171,7 +175,7 @@ fn optional_response(x: &mut [u8], n: Numbers)
 pub fn block(x: &mut [u8], n: Numbers)
     requires { ⌜ length (now x) ≡ sizeOfBlock ⌝ }
 {
-    format(&mut x[in_block::FORMAT..in_block::HANDLING]);
+    format(&mut x[in_block::FORMAT..in_block::HANDLING], n);
     handling(&mut x[in_block::HANDLING..in_block::TIMES], n);
     times(&mut x[in_block::TIMES..in_block::RESPONSE], n);
     optional_response(&mut x[in_block::RESPONSE..in_block::REFERENCES], n);

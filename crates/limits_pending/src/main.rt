@@ -17,6 +17,7 @@ fn main() {
     refusals::worked();
     refusals::postings();
     refusals::records();
+    refusals::versions();
     refusals::receipts();
     refusals::releases();
     effects::codes();

@@ -49,6 +49,27 @@ pub fn records() {
     );
 }
 
+// Version 1 beside version 2: the table does not tell them apart. A standard version that version 1 does not have comes
+// before the missing block and whatever else is wrong.
+pub fn versions() {
+    play(
+        b"Post From 207, To 3, Asked 1, Version 1;Post From 207, To 3, Asked 1 again;\
+        Receipt From 3, To 207, Code 1;Receipt From 3, To 207, Code 1, Version 1;Show;",
+    );
+    play(
+        b"Post From 207, To 3, Asked 1, With standard version 15;\
+        Post From 207, To 3, Asked 1, Version 1;Receipt From 3, To 207, Code 1, Version 1;Show;",
+    );
+    play(
+        b"Post From 207, To 3, Asked 1, Version 1, With standard version 0;\
+        Post From 207, To 3, Version 1, With standard version 0, Number 2;\
+        Receipt From 3, To 207, Code 1, Version 1, With standard version 15;\
+        Post From 207, To 3, Asked 1, With standard version 16;\
+        Post From 207, To 3, Asked 1, Version 0;Post From 207, To 3, Asked 1, Version 15;\
+        Post From 207, To 3, Asked 1, Version 17;Show;",
+    );
+}
+
 // No G8, no originator or not one recipient, no row, no such block.
 pub fn receipts() {
     play(

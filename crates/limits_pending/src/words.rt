@@ -7,7 +7,7 @@ use header::zero::no_address;
 use optional::OptionalNumber;
 use text::Text;
 
-// Stands for a group or an extension that a line does not have.
+// Stands for a group, an extension or a standard version that a line does not have.
 pub const ABSENT: u32 = 4294967295;
 
 // The parts' letters, counted from A.
@@ -40,6 +40,8 @@ pub const TO: usize = 19;
 pub const USER_DATA: usize = 20;
 
 pub const VERSION: usize = 21;
+
+pub const WITH_STANDARD: usize = 22;
 
 pub const EXTENSION: usize = 23;
 
@@ -88,7 +90,7 @@ const USUAL: Numbers = [
     0, // TO
     ABSENT, // USER_DATA
     2, // VERSION
-    0, // W
+    ABSENT, // WITH_STANDARD
     ABSENT, // EXTENSION
     96, // YEAR
     0, // Z

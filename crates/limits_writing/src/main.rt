@@ -20,11 +20,16 @@ mod rules_and_sizes;
 mod tell;
 mod texts;
 mod unused;
+mod versions;
 mod worked;
 
 fn fields() {
     worked::octets();
     worked::every_field();
+    versions::octets();
+    versions::every_group();
+    versions::last_block();
+    versions::refused();
     texts::originators();
     texts::characters();
     texts::others();

@@ -1,5 +1,5 @@
 // Numbers at their limits. An illegal version is 2, every other illegal number 3; nothing is cut to the width
-// of its field, so 18 is no version 2.
+// of its field, so 17 is no version 1 and 18 no version 2.
 use crate::cases::one;
 use crate::cases::three;
 use crate::cases::two;
@@ -7,8 +7,11 @@ use crate::plan::*;
 
 pub fn fronts() {
     one(VERSION, 0, 1);
+    // 33 - 1 = 32 bits in 4 octets: version 1 has no presence bit of the standard version.
     one(VERSION, 1, 1);
     one(VERSION, 3, 1);
+    one(VERSION, 15, 1);
+    one(VERSION, 17, 1);
     one(VERSION, 18, 1);
     // 33 + 2 = 35 bits in 5 octets.
     one(COMPRESSION, 0, 1);

@@ -2,7 +2,7 @@
 use crate::tell::print;
 use crate::tell::print_number;
 
-pub type Plan = [u32; 47];
+pub type Plan = [u32; 48];
 
 // Stands for a field, a text or a group that is absent.
 pub const ABSENT: u32 = 4294967295;
@@ -48,67 +48,69 @@ pub const NEXT_SIZE: usize = 16;
 
 pub const NEXT_CODE: usize = 17;
 
+pub const NEXT_STANDARD: usize = 18;
+
 // The fields of a block. G4 is present where FAD is.
-pub const UMF: usize = 18;
+pub const UMF: usize = 19;
 
-pub const STANDARD: usize = 19;
+pub const STANDARD: usize = 20;
 
-pub const FAD: usize = 20;
+pub const FAD: usize = 21;
 
-pub const NUMBER: usize = 21;
+pub const NUMBER: usize = 22;
 
-pub const SUBTYPE: usize = 22;
+pub const SUBTYPE: usize = 23;
 
-pub const FILE: usize = 23;
+pub const FILE: usize = 24;
 
-pub const SIZE: usize = 24;
+pub const SIZE: usize = 25;
 
-pub const OPERATION: usize = 25;
+pub const OPERATION: usize = 26;
 
-pub const RETRANSMIT: usize = 26;
+pub const RETRANSMIT: usize = 27;
 
-pub const PRECEDENCE: usize = 27;
+pub const PRECEDENCE: usize = 28;
 
-pub const CLASSIFICATION: usize = 28;
+pub const CLASSIFICATION: usize = 29;
 
-pub const MARKING: usize = 29;
+pub const MARKING: usize = 30;
 
 // G5 and G6 are present or not; the requests are the three bits of G7; G8 is present where its code is.
-pub const G5: usize = 30;
+pub const G5: usize = 31;
 
-pub const G6: usize = 31;
+pub const G6: usize = 32;
 
-pub const REQUESTS: usize = 32;
+pub const REQUESTS: usize = 33;
 
-pub const CODE: usize = 33;
+pub const CODE: usize = 34;
 
-pub const CANTCO: usize = 34;
+pub const CANTCO: usize = 35;
 
-pub const CANTPRO: usize = 35;
+pub const CANTPRO: usize = 36;
 
-pub const AMPLIFICATION: usize = 36;
+pub const AMPLIFICATION: usize = 37;
 
-pub const REFERENCES: usize = 37;
+pub const REFERENCES: usize = 38;
 
-pub const REFERENCE_URN: usize = 38;
+pub const REFERENCE_URN: usize = 39;
 
 // One DTG and one extension for all groups that have them.
-pub const YEAR: usize = 39;
+pub const YEAR: usize = 40;
 
-pub const MONTH: usize = 40;
+pub const MONTH: usize = 41;
 
-pub const DAY: usize = 41;
+pub const DAY: usize = 42;
 
-pub const HOUR: usize = 42;
+pub const HOUR: usize = 43;
 
-pub const MINUTE: usize = 43;
+pub const MINUTE: usize = 44;
 
-pub const SECOND: usize = 44;
+pub const SECOND: usize = 45;
 
-pub const EXTENSION: usize = 45;
+pub const EXTENSION: usize = 46;
 
 // What every flag of the record that is set holds: a flag is set unless it is 0.
-pub const FLAG: usize = 46;
+pub const FLAG: usize = 47;
 
 // Document 01's octets A: no addresses, UMF 2. A group that a case makes present has in it what octets B have.
 pub const PLAIN: Plan = [
@@ -130,6 +132,7 @@ pub const PLAIN: Plan = [
     2, // NEXT_UMF
     ABSENT, // NEXT_SIZE
     ABSENT, // NEXT_CODE
+    ABSENT, // NEXT_STANDARD
     2, // UMF
     ABSENT, // STANDARD
     ABSENT, // FAD
@@ -162,17 +165,18 @@ pub const PLAIN: Plan = [
 ];
 
 // The labels of the keys, in their order.
-const LABELS: [u8; 476] =
+const LABELS: [u8; 498] =
     *b"version,compression,URN,name of,no form,place,character,recipients,recipient's URN,\
         recipient's name of,next recipient's URN,information addressees,\
-        information addressee's URN,header size,blocks,next UMF,next size,next R/C,UMF,\
+        information addressee's URN,header size,blocks,next UMF,next size,next R/C,\
+        next standard version,UMF,\
         standard version,FAD,message number,subtype,file name of,size,operation,retransmit,\
         precedence,classification,marking of,G5,G6,requests,R/C,CANTCO,CANTPRO,amplification of,\
         references,reference's URN,year,month,day,hour,minute,second,extension,flags of";
 
 pub fn changed(plan: Plan, key: usize, value: u32) -> Plan {
     let mut p = plan;
-    if key < 47 {
+    if key < 48 {
         p[key] = value;
     }
     p

@@ -131,6 +131,7 @@ fn next(p: Plan) -> Plan {
     q[UMF] = p[NEXT_UMF];
     q[SIZE] = p[NEXT_SIZE];
     q[CODE] = p[NEXT_CODE];
+    q[STANDARD] = p[NEXT_STANDARD];
     q
 }
 

@@ -34,6 +34,7 @@ pub const EVERY: Plan = [
     7, // NEXT_UMF
     4, // NEXT_SIZE
     ABSENT, // NEXT_CODE
+    9, // NEXT_STANDARD
     8, // UMF
     9, // STANDARD
     5, // FAD

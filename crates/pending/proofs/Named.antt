@@ -50,7 +50,7 @@ module _ (h : Header) (n count : ℕ) (b : Block) (is : hasBlock h n ≡ true �
   -- a valid record's block
   block-is : Valid h count → hasBlock h n ≡ true → b ≡ blockAt h n
   unfolding blocks viewed
-  block-is v there = is there (count-most noBlock block 16 15 _ _ (blocks-legal h (v .fields)))
+  block-is v there = is there (count-most noBlock (block (h .front .version)) 16 15 _ _ (blocks-legal h (v .fields)))
 
   -- the requests and the recipients, as loaded
   module _ (key : k ≡ keyImage (keyOf (postingKey h b))) (asked : Requests) (asks : asked ≡ b .times .requests .requests) (to : Addresses) (list : to ≡ h .front .recipients .addresses) where
@@ -92,7 +92,7 @@ module _ (h : Header) (n count : ℕ) (b : Block) (is : hasBlock h n ≡ true �
     pub receipt-asks : (f : ℕ) → f ≡ receiptFault h n count → f ≡ 0 → 0 < code
     receipt-asks f e z =
         let P = answers h n count (sym e ∙ z) in
-        rw (said, block-is (P .valid) (P .block-there)) (code-some (blockAt h n) (legal-at h count (P .valid) n (P .block-there)) (P .response))
+        rw (said, block-is (P .valid) (P .block-there)) (code-some (h .front .version) (blockAt h n) (legal-at h count (P .valid) n (P .block-there)) (P .response))
 
     pub receipt-named : (f : ℕ) → f ≡ receiptFault h n count → named f (receipt (keyOf k) (addressOf who, code)) ≡ callOf (receiving h n count)
     unfolding callOf

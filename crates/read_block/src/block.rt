@@ -30,11 +30,11 @@ use record_octets::in_block;
 use record_octets::in_blocks;
 
 // The fields from the user message format to G7: the first 268 octets.
-fn read_head(s: &[u8], at: BitPlace, x: &mut [u8]) -> Step
+fn read_head(s: &[u8], at: BitPlace, version: u32, x: &mut [u8]) -> Step
     requires { ⌜ (length (now s) ≤ datagramLimit) × (now x ≡ zeros 268) × (length (now x) ≡ 268) ⌝ }
-    ensures { λ r. ⌜ Into (format & handling & times) (λ v. formatOctets (v .0) ++ handlingOctets (v .1 .0) ++ timesOctets (v .1 .1)) (λ v. TypedFormat (v .0) × TypedHandling (v .1 .0) × TypedTimes (v .1 .1)) (bitsOf (now (s .entry))) (at .0) r (now (x .exit)) ⌝ }
+    ensures { λ r. ⌜ Into (format version & handling & times) (λ v. formatOctets (v .0) ++ handlingOctets (v .1 .0) ++ timesOctets (v .1 .1)) (λ v. TypedFormat (v .0) × TypedHandling (v .1 .0) × TypedTimes (v .1 .1)) (bitsOf (now (s .entry))) (at .0) r (now (x .exit)) ⌝ }
 {
-    let step = read_format(s, at, &mut x[in_block::FORMAT..in_block::HANDLING]);
+    let step = read_format(s, at, version, &mut x[in_block::FORMAT..in_block::HANDLING]);
     let Step::Next(at) = step else {
         return step;
     };
@@ -45,12 +45,12 @@ fn read_head(s: &[u8], at: BitPlace, x: &mut [u8]) -> Step
     read_times(s, at, &mut x[in_block::TIMES..in_block::RESPONSE])
 }
 
-// A message block behind its recurrence bit. The presence bit of G10 has to be 0 and has no cell.
-pub fn read_block(s: &[u8], at: BitPlace, x: &mut [u8]) -> Step
+// A message block of a header of that version, behind its recurrence bit. The presence bit of G10 has to be 0 and has no cell.
+pub fn read_block(s: &[u8], at: BitPlace, version: u32, x: &mut [u8]) -> Step
     requires { ⌜ (length (now s) ≤ datagramLimit) × (now x ≡ zeros sizeOfBlock) × (length (now x) ≡ sizeOfBlock) ⌝ }
-    ensures { λ r. ⌜ Into block blockOctets TypedBlock (bitsOf (now (s .entry))) (at .0) r (now (x .exit)) ⌝ }
+    ensures { λ r. ⌜ Into (block version) blockOctets TypedBlock (bitsOf (now (s .entry))) (at .0) r (now (x .exit)) ⌝ }
 {
-    let step = read_head(s, at, &mut x[in_block::FORMAT..in_block::RESPONSE]);
+    let step = read_head(s, at, version, &mut x[in_block::FORMAT..in_block::RESPONSE]);
     let Step::Next(at) = step else {
         return step;
     };
@@ -66,9 +66,9 @@ pub fn read_block(s: &[u8], at: BitPlace, x: &mut [u8]) -> Step
 }
 
 // An entry behind its recurrence bit, with room for `left` others behind it.
-fn read_entry(s: &[u8], at: BitPlace, left: usize, x: &mut [u8]) -> Entry
+fn read_entry(s: &[u8], at: BitPlace, version: u32, left: usize, x: &mut [u8]) -> Entry
     requires { ⌜ (length (now s) ≤ datagramLimit) × (now x ≡ zeros sizeOfBlock) × (length (now x) ≡ sizeOfBlock) ⌝ }
-    ensures { λ r. ⌜ Into (recurs left & block) (λ v. blockOctets (v .1)) (λ v. (v .0 ≡ r .more) × TypedBlock (v .1)) (bitsOf (now (s .entry))) (at .0) (r .step) (now (x .exit)) ⌝ }
+    ensures { λ r. ⌜ Into (recurs left & block version) (λ v. blockOctets (v .1)) (λ v. (v .0 ≡ r .more) × TypedBlock (v .1)) (bitsOf (now (s .entry))) (at .0) (r .step) (now (x .exit)) ⌝ }
 {
     let a = read_recurs(s, at, left);
     let Flag::Got(more, at) = a else {
@@ -77,7 +77,7 @@ fn read_entry(s: &[u8], at: BitPlace, left: usize, x: &mut [u8]) -> Entry
             more: false,
         };
     };
-    let step = read_block(s, at, x);
+    let step = read_block(s, at, version, x);
     Entry {
         step: step,
         more: more,
@@ -85,15 +85,21 @@ fn read_entry(s: &[u8], at: BitPlace, left: usize, x: &mut [u8]) -> Entry
 }
 
 // The entries of a list of 1 to 16.
-fn read_entries(s: &[u8], at: BitPlace, list: &mut [u8]) -> Entries
+fn read_entries(s: &[u8], at: BitPlace, version: u32, list: &mut [u8]) -> Entries
     requires { ⌜ (length (now s) ≤ datagramLimit) × (now list ≡ zeros sizeOfBlocksList) ⌝ }
-    ensures { λ r. ⌜ Into blocks (λ v. manyOctets blockOctets (v .list)) (λ v. (v .count ≡ r .count) × (length (v .list) ≡ 16) × Each TypedBlock (v .list)) (bitsOf (now (s .entry))) (at .0) (r .step) (now (list .exit)) ⌝ }
+    ensures { λ r. ⌜ Into (blocks version) (λ v. manyOctets blockOctets (v .list)) (λ v. (v .count ≡ r .count) × (length (v .list) ≡ 16) × Each TypedBlock (v .list)) (bitsOf (now (s .entry))) (at .0) (r .step) (now (list .exit)) ⌝ }
 {
     let mut n: usize = 0;
     let mut place = at;
     loop {
         let to = n * in_blocks::ENTRY;
-        let e = read_entry(s, place, 15 - n, &mut list[to..to + in_blocks::ENTRY]);
+        let e = read_entry(
+            s,
+            place,
+            version,
+            15 - n,
+            &mut list[to..to + in_blocks::ENTRY],
+        );
         let step = e.step;
         let Step::Next(next) = step else {
             return Entries {
@@ -113,12 +119,12 @@ fn read_entries(s: &[u8], at: BitPlace, list: &mut [u8]) -> Entries
     }
 }
 
-// 1 to 16 blocks.
-pub fn read_blocks(s: &[u8], at: BitPlace, x: &mut [u8]) -> Step
+// 1 to 16 blocks of a header of that version.
+pub fn read_blocks(s: &[u8], at: BitPlace, version: u32, x: &mut [u8]) -> Step
     requires { ⌜ (length (now s) ≤ datagramLimit) × (now x ≡ zeros sizeOfBlocks) × (length (now x) ≡ sizeOfBlocks) ⌝ }
-    ensures { λ r. ⌜ Into blocks blocksOctets TypedBlocks (bitsOf (now (s .entry))) (at .0) r (now (x .exit)) ⌝ }
+    ensures { λ r. ⌜ Into (blocks version) blocksOctets TypedBlocks (bitsOf (now (s .entry))) (at .0) r (now (x .exit)) ⌝ }
 {
-    let a = read_entries(s, at, &mut x[in_blocks::LIST..in_blocks::COUNT]);
+    let a = read_entries(s, at, version, &mut x[in_blocks::LIST..in_blocks::COUNT]);
     let step = a.step;
     store_word(&mut x[in_blocks::COUNT..in_blocks::END], a.count);
     step

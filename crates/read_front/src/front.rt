@@ -105,7 +105,7 @@ pub fn read_information(s: &[u8], at: BitPlace, room: usize, x: &mut [u8]) -> St
 // Version, compression and G1: the first 96 octets.
 fn read_origin(s: &[u8], at: BitPlace, x: &mut [u8]) -> Step
     requires { ⌜ (length (now s) ≤ datagramLimit) × (now x ≡ zeros 96) × (length (now x) ≡ 96) ⌝ }
-    ensures { λ r. ⌜ Into (number 4 2 2 2 & maybe 2 0 1 & originator) (λ v. wordOctets (v .0) ++ optionalNumberOctets (v .1 .0) ++ optionalAddressOctets (v .1 .1)) (λ v. (v .0 < 4294967296) × TypedOptionalNumber (v .1 .0) × TypedOptionalAddress (v .1 .1)) (bitsOf (now (s .entry))) (at .0) r (now (x .exit)) ⌝ }
+    ensures { λ r. ⌜ Into (number 4 1 2 2 & maybe 2 0 1 & originator) (λ v. wordOctets (v .0) ++ optionalNumberOctets (v .1 .0) ++ optionalAddressOctets (v .1 .1)) (λ v. (v .0 < 4294967296) × TypedOptionalNumber (v .1 .0) × TypedOptionalAddress (v .1 .1)) (bitsOf (now (s .entry))) (at .0) r (now (x .exit)) ⌝ }
 {
     let step = read_word(
         s,

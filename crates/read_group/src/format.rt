@@ -5,16 +5,17 @@ ghost use lib.ListN.{length};
 ghost use Rattle.bits.specs.Bits.{bitsOf};
 ghost use Rattle.bits.specs.Units.{datagramLimit};
 ghost use Rattle.cells.specs.Cells.{zeros};
-ghost use Rattle.header.specs.Table.{identity, optionalIdentity, format};
+ghost use Rattle.header.specs.Table.{identity, optionalIdentity, standardVersion, format};
 ghost use Rattle.into.specs.Into.{Into};
-ghost use Rattle.record_octets.specs.Record.{sizeOfIdentity, identityOctets, sizeOfOptionalIdentity, optionalIdentityOctets, sizeOfFormat, formatOctets};
-ghost use Rattle.record_octets.specs.Typed.{TypedIdentity, TypedOptionalIdentity, TypedFormat};
+ghost use Rattle.record_octets.specs.Record.{sizeOfOptionalNumber, optionalNumberOctets, sizeOfIdentity, identityOctets, sizeOfOptionalIdentity, optionalIdentityOctets, sizeOfFormat, formatOctets};
+ghost use Rattle.record_octets.specs.Typed.{TypedOptionalNumber, TypedIdentity, TypedOptionalIdentity, TypedFormat};
 use bits::BitPlace;
 use cells::store_mark;
 use codec::Fault;
 use codec::Flag;
 use codec::Step;
 use flag::read_flag;
+use header::editions::lacks_standard_version;
 use header::layout::FAD;
 use header::layout::FILE;
 use header::layout::MESSAGE_NUMBER;
@@ -83,9 +84,21 @@ pub fn read_optional_identity(s: &[u8], at: BitPlace, x: &mut [u8]) -> Step
     Step::Next(at)
 }
 
-pub fn read_format(s: &[u8], at: BitPlace, x: &mut [u8]) -> Step
+// The message standard version, where the version has it.
+fn read_standard_version(s: &[u8], at: BitPlace, version: u32, x: &mut [u8]) -> Step
+    requires { ⌜ (length (now s) ≤ datagramLimit) × (now x ≡ zeros sizeOfOptionalNumber) × (length (now x) ≡ sizeOfOptionalNumber) ⌝ }
+    ensures { λ r. ⌜ Into (standardVersion version) optionalNumberOctets TypedOptionalNumber (bitsOf (now (s .entry))) (at .0) r (now (x .exit)) ⌝ }
+{
+    let lacking = lacks_standard_version(version);
+    if lacking {
+        return Step::Next(at);
+    }
+    read_optional(s, at, STANDARD_VERSION, x)
+}
+
+pub fn read_format(s: &[u8], at: BitPlace, version: u32, x: &mut [u8]) -> Step
     requires { ⌜ (length (now s) ≤ datagramLimit) × (now x ≡ zeros sizeOfFormat) × (length (now x) ≡ sizeOfFormat) ⌝ }
-    ensures { λ r. ⌜ Into format formatOctets TypedFormat (bitsOf (now (s .entry))) (at .0) r (now (x .exit)) ⌝ }
+    ensures { λ r. ⌜ Into (format version) formatOctets TypedFormat (bitsOf (now (s .entry))) (at .0) r (now (x .exit)) ⌝ }
 {
     let step = read_word(
         s,
@@ -97,10 +110,10 @@ pub fn read_format(s: &[u8], at: BitPlace, x: &mut [u8]) -> Step
     let Step::Next(at) = step else {
         return step;
     };
-    let step = read_optional(
+    let step = read_standard_version(
         s,
         at,
-        STANDARD_VERSION,
+        version,
         &mut x[in_format::VERSION..in_format::IDENTITY],
     );
     let Step::Next(at) = step else {

@@ -15,6 +15,7 @@ use cells::store_mark;
 use codec::Step;
 use header::layout::HEADER_SIZE;
 use header::zero::NO_NUMBER;
+use leaves::setting::front_version;
 use optional::OptionalNumber;
 use optional::read_optional;
 use read_block::block::read_blocks;
@@ -39,6 +40,7 @@ pub fn read_fields(s: &[u8], at: BitPlace, h: &mut [u8]) -> Fields
             size: NO_NUMBER,
         };
     };
+    let version = front_version(&h[in_header::FRONT..in_header::SIZED]);
     let a = read_optional(s, at, HEADER_SIZE);
     let size = a.number;
     let step = a.step;
@@ -49,7 +51,7 @@ pub fn read_fields(s: &[u8], at: BitPlace, h: &mut [u8]) -> Fields
         };
     };
     store_mark(&mut h[in_header::SIZED..in_header::BLOCKS], size.present);
-    let step = read_blocks(s, at, &mut h[in_header::BLOCKS..in_header::END]);
+    let step = read_blocks(s, at, version, &mut h[in_header::BLOCKS..in_header::END]);
     Fields {
         step: step,
         size: size,

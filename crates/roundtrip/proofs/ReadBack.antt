@@ -83,7 +83,7 @@ module _ (h : Header) (count : ℕ) (valid : ValidRecord h count) where
     unfolding settled wire viewed _thenBy_ optionalNumber flag headerNorm
     settles =
         let b : length (headerOf h ++ d) - headerSize h ≡ count = omega (arith, long) in
-        rw (b, rules-norm h, v .rules, size-filled (h .sized) (headerSize h), sizes-norm (h .blocks) count, v .sizes)
+        rw (b, rules-norm h, v .rules, size-filled (h .sized) (headerSize h), sizes-norm (h .front .version) (h .blocks) count, v .sizes)
 
     pub reads-back : reading (headerOf h ++ d) ≡ accepted (headerNorm h) (headerSize h)
     unfolding reading judged filled

@@ -41,7 +41,7 @@ module _ (x y : Header) (same : Same x y) where
 
   same-sizes : (count : ℕ) → sizesRight (x .blocks) count ≡ sizesRight (y .blocks) count
   unfolding headerNorm
-  same-sizes count = sym (sizes-norm (x .blocks) count) ∙ ap (λ (h : Header). sizesRight (h .blocks) count) norms ∙ sizes-norm (y .blocks) count
+  same-sizes count = sym (sizes-norm (x .front .version) (x .blocks) count) ∙ ap (λ (h : Header). sizesRight (h .blocks) count) norms ∙ sizes-norm (y .front .version) (y .blocks) count
 
   -- of a record whose fields are legal, the bits and the octets
   module _ (fine : fieldsFault x ≡ 0) where

@@ -39,7 +39,7 @@ size-bits false x n e = refl
 module _ (w : Wire) (n : ℕ) (size : (w .size .present ⇒ eqb (w .size .value) n) ≡ true) where
   again-bits : wire .write (wireOf (recordOf w) n) ≡ wire .write w
   unfolding wire viewed _thenBy_
-  again-bits = ap (λ (l : List Bool). front .write (w .front) ++ (l ++ blocks .write (w .blocks))) (size-bits (w .size .present) (w .size .value) n size)
+  again-bits = ap (λ (l : List Bool). front .write (w .front) ++ (l ++ blocks (w .front .version) .write (w .blocks))) (size-bits (w .size .present) (w .size .value) n size)
 
   again-end : fieldsEnd (recordOf w) ≡ length (wire .write w)
   again-end = sym (ends-alike (recordOf w) n) ∙ sym (wire-lawful .sized (wireOf (recordOf w) n)) ∙ ap length again-bits

@@ -1,4 +1,4 @@
--- DEMAND 2, whole. Every valid record is, given room, written as its one header and read back the same; every header accepted is written again as the same octets. First of what the calls are promised
+-- DEMAND 2, whole, for both versions of the header. Every valid record is, given room, written as its one header and read back the same; every header accepted is written again as the same octets. First of what the calls are promised
 -- to do (`reading`, `writing`), then of the calls themselves, by their contracts alone. The proof is proofs/Demand2.antt.
 use Prim.Native.Nat.{ℕ, _≤_}
 use mathlib.Core.Path.{_≡_}

@@ -53,47 +53,47 @@ first-faulty (Check.Bad k) f g e t = go f e
     go (suc n) d = d
 
 -- the blocks before i are legal; what they show of the rules, the sizes, and where they end
-pub record Surveyed (x : Setting) (alone octets at n : ℕ) (l : List Block) (kept owned : Bool) (left end i : ℕ) : Type 0 where
-  pub fields : Checking noBlock block 16 15 l n i
+pub record Surveyed (version : ℕ) (x : Setting) (alone octets at n : ℕ) (l : List Block) (kept owned : Bool) (left end i : ℕ) : Type 0 where
+  pub fields : Checking noBlock (block version) 16 15 l n i
   pub looked : Looked x alone octets n l kept owned left i
-  pub place : cells noBlock 16 16 5 (listed noBlock block 15) .check (l, n) ≡ 0 → Ending noBlock block 16 15 l n at i end
+  pub place : cells noBlock 16 16 5 (listed noBlock (block version) 15) .check (l, n) ≡ 0 → Ending noBlock (block version) 16 15 l n at i end
   pub short : end ≤ at + i * 3316
 
-module _ (x : Setting) (alone octets at n : ℕ) (l : List Block) (room : at + 53056 ≤ 524056) (whole : length l ≡ 16) (most : n ≤ 16) where
-  pub surveyed-none : 0 < n → Surveyed x alone octets at n l true true octets at 0
+module _ (version : ℕ) (x : Setting) (alone octets at n : ℕ) (l : List Block) (room : at + 53056 ≤ 524056) (whole : length l ≡ 16) (most : n ≤ 16) where
+  pub surveyed-none : 0 < n → Surveyed version x alone octets at n l true true octets at 0
   surveyed-none some =
       record {
-        fields = checking-none noBlock block 16 15 l n whole some most (lit≤ tt);
+        fields = checking-none noBlock (block version) 16 15 l n whole some most (lit≤ tt);
         looked = looked-none x alone octets n l whole most;
-        place = λ legal. ending-none noBlock block 16 15 l n legal (lit≤ tt) at;
+        place = λ legal. ending-none noBlock (block version) 16 15 l n legal (lit≤ tt) at;
         short = omega arith;
       }
 
-  module _ (kept owned : Bool) (left end i : ℕ) (s : Surveyed x alone octets at n l kept owned left end i) where
+  module _ (kept owned : Bool) (left end i : ℕ) (s : Surveyed version x alone octets at n l kept owned left end i) where
     -- a legal block has a place in a datagram
-    pub surveyed-room : (b : Block) → i < n → block .check b ≡ 0 → end + (1 + block .size b) ≤ 524056
-    surveyed-room b k e = omega (arith, room, most, s .short, block-bounded .most b e)
+    pub surveyed-room : (b : Block) → i < n → block version .check b ≡ 0 → end + (1 + block version .size b) ≤ 524056
+    surveyed-room b k e = omega (arith, room, most, s .short, block-bounded version .most b e)
 
-    module _ (d : Block) (k : i < n) (c : Check) (told : checkNo c ≡ block .check (getD l i d)) (fine : tagOf check.the-type c ≡ 0) where
-      pub surveyed-more : (kept' owned' : Bool) (left' end' : ℕ) → kept' ≡ kept && all (λ r. r x (getD l i d)) rules → owned' ≡ (owned && leb (shareOf alone (getD l i d) .1) left) && owns (shareOf alone (getD l i d)) → left' ≡ left - shareOf alone (getD l i d) .1 → end' ≡ (end + 1) + block .size (getD l i d) → Surveyed x alone octets at n l kept' owned' left' end' (i + 1)
+    module _ (d : Block) (k : i < n) (c : Check) (told : checkNo c ≡ block version .check (getD l i d)) (fine : tagOf check.the-type c ≡ 0) where
+      pub surveyed-more : (kept' owned' : Bool) (left' end' : ℕ) → kept' ≡ kept && all (λ r. r x (getD l i d)) rules → owned' ≡ (owned && leb (shareOf alone (getD l i d) .1) left) && owns (shareOf alone (getD l i d)) → left' ≡ left - shareOf alone (getD l i d) .1 → end' ≡ (end + 1) + block version .size (getD l i d) → Surveyed version x alone octets at n l kept' owned' left' end' (i + 1)
       surveyed-more kept' owned' left' end' ek eo el ee =
           record {
-            fields = checking-more noBlock block 16 15 l n whole i (s .fields) d k most c told fine;
+            fields = checking-more noBlock (block version) 16 15 l n whole i (s .fields) d k most c told fine;
             looked = looked-more x alone octets n l whole most kept owned left i (s .looked) d k kept' owned' left' ek eo el;
-            place = λ legal. ending-more noBlock block 16 15 l n legal (lit≤ tt) at i end (s .place legal) d k (end + 1) end' refl ee;
-            short = omega (arith, s .short, block-bounded .most (getD l i d) (fine-check c _ told fine));
+            place = λ legal. ending-more noBlock (block version) 16 15 l n legal (lit≤ tt) at i end (s .place legal) d k (end + 1) end' refl ee;
+            short = omega (arith, s .short, block-bounded version .most (getD l i d) (fine-check c _ told fine));
           }
 
 -- all blocks looked at
-module _ (x : Setting) (g : Blocks) (alone octets at : ℕ) (whole : length (g .list) ≡ 16) (most : g .count ≤ 16) (owner : alone ≡ aloneOf (g .count) octets) (kept owned : Bool) (left end i : ℕ) (s : Surveyed x alone octets at (g .count) (g .list) kept owned left end i) (past : g .count ≤ i) where
-  pub surveyed-all : (c : Check) (kept' right' : Bool) (end' : ℕ) → checkNo c ≡ 0 → kept' ≡ kept → right' ≡ owned && eqb left 0 → end' ≡ end → (checkNo c ≡ blocks .check g) × (blocks .check g ≡ 0 → (kept' ≡ all (λ b. all (λ r. r x b) rules) (usedBlocks g)) × (right' ≡ sizesRight g octets) × (end' ≡ at + blocks .size g))
+module _ (version : ℕ) (x : Setting) (g : Blocks) (alone octets at : ℕ) (whole : length (g .list) ≡ 16) (most : g .count ≤ 16) (owner : alone ≡ aloneOf (g .count) octets) (kept owned : Bool) (left end i : ℕ) (s : Surveyed version x alone octets at (g .count) (g .list) kept owned left end i) (past : g .count ≤ i) where
+  pub surveyed-all : (c : Check) (kept' right' : Bool) (end' : ℕ) → checkNo c ≡ 0 → kept' ≡ kept → right' ≡ owned && eqb left 0 → end' ≡ end → (checkNo c ≡ blocks version .check g) × (blocks version .check g ≡ 0 → (kept' ≡ all (λ b. all (λ r. r x b) rules) (usedBlocks g)) × (right' ≡ sizesRight g octets) × (end' ≡ at + blocks version .size g))
   unfolding blocks viewed
   surveyed-all c kept' right' end' ec ek er ee = (
-    ec ∙ checking-all noBlock block 16 15 (g .list) (g .count) whole i (s .fields) past,
+    ec ∙ checking-all noBlock (block version) 16 15 (g .list) (g .count) whole i (s .fields) past,
     λ legal.
         let r = looked-all x g alone octets (g .count) whole (omega arith) owner kept owned left i (s .looked) past kept' right' ek er in (
           r .0,
           r .1,
-          omega (arith, ee, ending-all noBlock block 16 15 (g .list) (g .count) legal (lit≤ tt) at i end (s .place legal) past),
+          omega (arith, ee, ending-all noBlock (block version) 16 15 (g .list) (g .count) legal (lit≤ tt) at i end (s .place legal) past),
         ),
   )

@@ -42,14 +42,14 @@ pub struct Survey {
     pub end: BitPlace,
 }
 
-// A legal block behind those that were looked at.
-fn look(f: Found, x: Setting, b: &[u8], alone: OctetSize) -> Found
-    requires { ⌜ Placed (f .end .0) (1 + block .size (blockIn (now b))) × (block .check (blockIn (now b)) ≡ 0) × (length (now b) ≡ sizeOfBlock) ⌝ }
-    ensures { λ r. ⌜ (r .seen .kept ≡ f .seen .kept && all (λ rule. rule x (blockIn (now (b .entry)))) rules) × (r .seen .right ≡ (f .seen .right && leb (pick (blockIn (now (b .entry)) .handling .size .present) (blockIn (now (b .entry)) .handling .size .value) (alone .0)) (f .seen .left .0)) && owns (blockIn (now (b .entry)), pick (blockIn (now (b .entry)) .handling .size .present) (blockIn (now (b .entry)) .handling .size .value) (alone .0))) × (r .seen .left .0 ≡ f .seen .left .0 - pick (blockIn (now (b .entry)) .handling .size .present) (blockIn (now (b .entry)) .handling .size .value) (alone .0)) × (r .end .0 ≡ (f .end .0 + 1) + block .size (blockIn (now (b .entry)))) ⌝ }
+// A legal block of a record of that version, behind those that were looked at.
+fn look(f: Found, version: u32, x: Setting, b: &[u8], alone: OctetSize) -> Found
+    requires { ⌜ Placed (f .end .0) (1 + block version .size (blockIn (now b))) × (block version .check (blockIn (now b)) ≡ 0) × (length (now b) ≡ sizeOfBlock) ⌝ }
+    ensures { λ r. ⌜ (r .seen .kept ≡ f .seen .kept && all (λ rule. rule x (blockIn (now (b .entry)))) rules) × (r .seen .right ≡ (f .seen .right && leb (pick (blockIn (now (b .entry)) .handling .size .present) (blockIn (now (b .entry)) .handling .size .value) (alone .0)) (f .seen .left .0)) && owns (blockIn (now (b .entry)), pick (blockIn (now (b .entry)) .handling .size .present) (blockIn (now (b .entry)) .handling .size .value) (alone .0))) × (r .seen .left .0 ≡ f .seen .left .0 - pick (blockIn (now (b .entry)) .handling .size .present) (blockIn (now (b .entry)) .handling .size .value) (alone .0)) × (r .end .0 ≡ (f .end .0 + 1) + block version .size (blockIn (now (b .entry)))) ⌝ }
 {
     let seen = see(f.seen, x, b, alone);
     let behind = end_flag(f.end);
-    let end = end_block(behind, b);
+    let end = end_block(behind, version, b);
     Found {
         seen: seen,
         end: end,
@@ -82,11 +82,18 @@ fn complete(f: Found) -> Survey
     }
 }
 
-// The entries of a list of 1 to 16 blocks in a setting, with so many octets of user data, from a place on that leaves
+// The entries of a list of 1 to 16 blocks of a record of that version, in a setting, with so many octets of user data, from a place on that leaves
 // room for the longest, 16 times 3,316 bits with their recurrence bits.
-fn survey_entries(x: Setting, list: &[u8], held: u32, octets: OctetSize, at: BitPlace) -> Survey
+fn survey_entries(
+    version: u32,
+    x: Setting,
+    list: &[u8],
+    held: u32,
+    octets: OctetSize,
+    at: BitPlace,
+) -> Survey
     requires { ⌜ Placed (at .0) 53056 × (length (now list) ≡ sizeOfBlocksList) ⌝ }
-    ensures { λ r. ⌜ (checkNo (r .fault) ≡ blocks .check (blocksOf (now (list .entry)) held)) × (blocks .check (blocksOf (now (list .entry)) held) ≡ 0 → (r .kept ≡ all (λ b. all (λ rule. rule x b) rules) (usedBlocks (blocksOf (now (list .entry)) held))) × (r .right ≡ sizesRight (blocksOf (now (list .entry)) held) (octets .0)) × (r .end .0 ≡ at .0 + blocks .size (blocksOf (now (list .entry)) held))) ⌝ }
+    ensures { λ r. ⌜ (checkNo (r .fault) ≡ blocks version .check (blocksOf (now (list .entry)) held)) × (blocks version .check (blocksOf (now (list .entry)) held) ≡ 0 → (r .kept ≡ all (λ b. all (λ rule. rule x b) rules) (usedBlocks (blocksOf (now (list .entry)) held))) × (r .right ≡ sizesRight (blocksOf (now (list .entry)) held) (octets .0)) × (r .end .0 ≡ at .0 + blocks version .size (blocksOf (now (list .entry)) held))) ⌝ }
 {
     let count = held as usize;
     if 16 < count {
@@ -107,21 +114,28 @@ fn survey_entries(x: Setting, list: &[u8], held: u32, octets: OctetSize, at: Bit
     let mut i: usize = 0;
     while i < count {
         let b = entry(list, i, in_blocks::ENTRY);
-        let c = check_block(b);
+        let c = check_block(version, b);
         let Check::Fine = c else {
             return broken_off(c);
         };
-        found = look(found, x, b, alone);
+        found = look(found, version, x, b, alone);
         i += 1;
     }
     complete(found)
 }
 
-// The blocks of a record.
-pub fn survey_blocks(x: Setting, g: &[u8], octets: OctetSize, at: BitPlace) -> Survey
+// The blocks of a record of that version.
+pub fn survey_blocks(version: u32, x: Setting, g: &[u8], octets: OctetSize, at: BitPlace) -> Survey
     requires { ⌜ Placed (at .0) 53056 × (length (now g) ≡ sizeOfBlocks) ⌝ }
-    ensures { λ r. ⌜ (checkNo (r .fault) ≡ blocks .check (blocksIn (now (g .entry)))) × (blocks .check (blocksIn (now (g .entry))) ≡ 0 → (r .kept ≡ all (λ b. all (λ rule. rule x b) rules) (usedBlocks (blocksIn (now (g .entry))))) × (r .right ≡ sizesRight (blocksIn (now (g .entry))) (octets .0)) × (r .end .0 ≡ at .0 + blocks .size (blocksIn (now (g .entry))))) ⌝ }
+    ensures { λ r. ⌜ (checkNo (r .fault) ≡ blocks version .check (blocksIn (now (g .entry)))) × (blocks version .check (blocksIn (now (g .entry))) ≡ 0 → (r .kept ≡ all (λ b. all (λ rule. rule x b) rules) (usedBlocks (blocksIn (now (g .entry))))) × (r .right ≡ sizesRight (blocksIn (now (g .entry))) (octets .0)) × (r .end .0 ≡ at .0 + blocks version .size (blocksIn (now (g .entry))))) ⌝ }
 {
     let count = load_word(&g[in_blocks::COUNT..in_blocks::END]);
-    survey_entries(x, &g[in_blocks::LIST..in_blocks::COUNT], count, octets, at)
+    survey_entries(
+        version,
+        x,
+        &g[in_blocks::LIST..in_blocks::COUNT],
+        count,
+        octets,
+        at,
+    )
 }

@@ -1,14 +1,14 @@
--- Document 01's starred cases hold, each by computing the definitions that the public contracts cite. Assumes nothing.
+-- Document 01's starred cases and those of version 1 hold, each by computing the definitions that the public contracts cite. Assumes nothing.
 use mathlib.Core.Path.{refl}
 use Rattle.bits.specs.Bits.{lowBits, value, bitsOf, octets}
 use Rattle.codec.specs.Answer.{next}
-use Rattle.codec.specs.Codec.{first, readNumber, number, flag, nothing, _thenBy_, present, viewed, tested, _closedBy_}
+use Rattle.codec.specs.Codec.{first, readNumber, number, flag, nothing, _thenBy_, present, unless, viewed, tested, _closedBy_}
 use Rattle.codec.specs.Characters.{readCharacters, writeCharacters, characters}
 use Rattle.codec.specs.Lists.{recurs, listed, cells}
 use Rattle.optional.specs.Optionals.{optionalNumber}
 use Rattle.text.specs.Texts.{text}
 use Rattle.header.specs.Zero.{noNumber, noOptionalText, noAddress, noAddresses, noDtg, noStamp, noIdentity, noFormat, noHandling, noRequests, noTimes, noResponse, noReference, noReferences, noBlock}
-use Rattle.header.specs.Table.{optionalText, unitName, address, addresses, originator, recipients, information, front, date, time, dtg, stamp, identity, optionalIdentity, format, codes, handling, optionalStamp, optionalDtg, requests, optionalRequests, times, compliance, response, optionalResponse, reference, references, optionalReferences, block, blocks, wire}
+use Rattle.header.specs.Table.{optionalText, unitName, address, addresses, originator, recipients, information, front, date, time, dtg, stamp, identity, optionalIdentity, standardVersion, format, codes, handling, optionalStamp, optionalDtg, requests, optionalRequests, times, compliance, response, optionalResponse, reference, references, optionalReferences, block, blocks, wire}
 use Rattle.header.specs.Rules.{ruleA, ruleB, ruleC, ruleD, ruleE, ruleF, ruleG, ruleH, ruleI, all, rulesKept}
 use Rattle.header.specs.Sizes.{shares, total, sizesRight}
 use Rattle.reader.specs.Reading.{readFill, settled, filled, judged, reading, behindHeader}
@@ -27,5 +27,5 @@ use Rattle.history.specs.Sheet.{sheet, refusal, rowWith, answersOf, entered, ne
 use Rattle.worked.specs.Cases.{AllHold, cases}
 
 pub worked : AllHold cases
-unfolding cases lowBits value bitsOf next readNumber number flag nothing _thenBy_ present viewed tested _closedBy_ readCharacters characters recurs listed cells optionalNumber text noNumber noOptionalText noAddress noAddresses noDtg noStamp noIdentity noFormat noHandling noRequests noTimes noResponse noReference noReferences noBlock optionalText unitName address addresses originator recipients information front date time dtg stamp identity optionalIdentity format codes handling optionalStamp optionalDtg requests optionalRequests times compliance response optionalResponse reference references optionalReferences block blocks wire ruleA ruleB ruleC ruleD ruleE ruleF ruleG ruleH ruleI all rulesKept shares total sizesRight readFill settled filled judged reading behindHeader first writeCharacters octets headerBits headerOf faultOf answered writing outputAfter answers onTable theory.onTable step find put alter sort without byKey byAddress list _or_ option keyOf addressOf optionOf askOf blockAt recipientsOf postingFault receiptFault callOf make settle openTo opens write answeredBy sheet refusal rowWith answersOf entered newAnswers coded codedAt Sheet.answered takenOut sameList sameAddress sameExtension sameKey
-worked = ((refl, refl), ((refl, refl), ((refl, refl), ((refl, refl), ((refl, refl), ((refl, refl), ((refl, refl), ((refl, refl), ((refl, refl), ((refl, refl), ((refl, refl), ((refl, refl), ((refl, refl), ((refl, refl), ((refl, refl), tt)))))))))))))))
+unfolding cases lowBits value bitsOf next readNumber number flag nothing _thenBy_ present unless viewed tested _closedBy_ readCharacters characters recurs listed cells optionalNumber text noNumber noOptionalText noAddress noAddresses noDtg noStamp noIdentity noFormat noHandling noRequests noTimes noResponse noReference noReferences noBlock optionalText unitName address addresses originator recipients information front date time dtg stamp identity optionalIdentity standardVersion format codes handling optionalStamp optionalDtg requests optionalRequests times compliance response optionalResponse reference references optionalReferences block blocks wire ruleA ruleB ruleC ruleD ruleE ruleF ruleG ruleH ruleI all rulesKept shares total sizesRight readFill settled filled judged reading behindHeader first writeCharacters octets headerBits headerOf faultOf answered writing outputAfter answers onTable theory.onTable step find put alter sort without byKey byAddress list _or_ option keyOf addressOf optionOf askOf blockAt recipientsOf postingFault receiptFault callOf make settle openTo opens write answeredBy sheet refusal rowWith answersOf entered newAnswers coded codedAt Sheet.answered takenOut sameList sameAddress sameExtension sameKey
+worked = ((refl, refl), ((refl, refl), ((refl, refl), ((refl, refl), ((refl, refl), ((refl, refl), ((refl, refl), ((refl, refl), ((refl, refl), ((refl, refl), ((refl, refl), ((refl, refl), ((refl, refl), ((refl, refl), ((refl, refl), ((refl, refl), ((refl, refl), ((refl, refl), ((refl, refl), ((refl, refl), tt))))))))))))))))))))

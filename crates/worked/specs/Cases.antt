@@ -1,10 +1,11 @@
--- Document 01's starred cases. The records are written out field by field; a group that is absent has the zero value in its cells.
+-- Document 01's starred cases, and those of version 1. The records are written out field by field; a group that is absent has the zero value in its cells.
 use Prim.Native.Nat.{ℕ}
 use mathlib.Core.Path.{_≡_}
 use mathlib.Core.Bool.{true, false}
 use mathlib.Core.List.{List, [], _∷_, _++_}
 use lib.ListN.{length, drop, replicate}
 use Rattle.header.specs.Zero.{noNumber, noOptionalText, noAddress, noAddresses, noDtg, noStamp, noIdentity, noRequests, noResponse, noReferences, noBlock}
+use Rattle.optional.specs.declared.OptionalNumber.{OptionalNumber}
 use Rattle.header.specs.declared.Address.{Address}
 use Rattle.header.specs.declared.Addresses.{Addresses}
 use Rattle.header.specs.declared.Block.{Block}
@@ -69,11 +70,11 @@ july3 =
       extension = noNumber;
     }
 
--- a block in format 2 with nothing present
-abbrev bare : Block
-bare =
+-- a block in format 2 with nothing present but perhaps the standard version
+abbrev bare : OptionalNumber → Block
+bare standard =
     record {
-      format = record { umf = 2; version = noNumber; identity = record { present = false; identity = noIdentity }; file = noOptionalText };
+      format = record { umf = 2; version = standard; identity = record { present = false; identity = noIdentity }; file = noOptionalText };
       handling = record { size = noNumber; codes = plain; marking = noOptionalText };
       times =
           record {
@@ -85,21 +86,32 @@ bare =
       references = record { present = false; references = noReferences };
     }
 
--- A: no addresses, UMF 2
-abbrev recordA : Header
-recordA =
+-- a header without addresses, of one block
+abbrev unaddressed : ℕ → Block → Header
+unaddressed version b =
     record {
       front =
           record {
-            version = 2;
+            version = version;
             compression = noNumber;
             originator = record { present = false; address = noAddress };
             recipients = record { present = false; addresses = noAddresses };
             information = record { present = false; addresses = noAddresses };
           };
       sized = false;
-      blocks = record { list = bare ∷ replicate 15 noBlock; count = 1 };
+      blocks = record { list = b ∷ replicate 15 noBlock; count = 1 };
     }
+
+-- A: no addresses, UMF 2; and A in version 1
+abbrev recordA : Header
+recordA = unaddressed 2 (bare noNumber)
+
+abbrev recordA1 : Header
+recordA1 = unaddressed 1 (bare noNumber)
+
+-- A in version 1 with a message standard version, which that version does not have
+abbrev standardA1 : Header
+standardA1 = unaddressed 1 (bare (record { present = true; value = 0 }))
 
 -- B: URN 207 to URN 3, UMF 2, 96-07-03 16:27:55, machine request
 abbrev recordB : Header
@@ -174,8 +186,16 @@ recordC =
 abbrev octetsA : List ℕ
 octetsA = 0x02 ∷ 0x08 ∷ 0x00 ∷ 0x00 ∷ 0x00 ∷ []
 
+-- version 1 in bits 0 to 3, UMF 2 in 10 to 13, all others 0; without the presence bit of the standard version the 33 bits of A are 32
+abbrev octetsA1 : List ℕ
+octetsA1 = 0x01 ∷ 0x08 ∷ 0x00 ∷ 0x00 ∷ []
+
 abbrev octetsB : List ℕ
 octetsB = 0xE2 ∷ 0x67 ∷ 0x00 ∷ 0x00 ∷ 0x1D ∷ 0x00 ∷ 0x00 ∷ 0x00 ∷ 0x01 ∷ 0x00 ∷ 0xC1 ∷ 0x37 ∷ 0xE0 ∷ 0x76 ∷ 0x33 ∷ 0x00 ∷ []
+
+-- the 22 header octets of Table XVIII of the standard, which has a URN and a name in one address
+abbrev tableXVIII : List ℕ
+tableXVIII = 0xE1 ∷ 0x67 ∷ 0x00 ∷ 0x80 ∷ 0x55 ∷ 0x67 ∷ 0x92 ∷ 0x1A ∷ 0xFC ∷ 0x77 ∷ 0x00 ∷ 0x00 ∷ 0x00 ∷ 0xA4 ∷ 0x04 ∷ 0x10 ∷ 0x21 ∷ 0xF8 ∷ 0x06 ∷ 0xDC ∷ 0x6E ∷ 0x06 ∷ []
 
 abbrev octetsC : List ℕ
 octetsC = 0xE2 ∷ 0x01 ∷ 0x00 ∷ 0x00 ∷ 0x7D ∷ 0x06 ∷ 0x00 ∷ 0x00 ∷ 0x01 ∷ 0x00 ∷ 0x08 ∷ 0xBE ∷ 0x01 ∷ 0xB7 ∷ 0x5B ∷ 0x00 ∷ []
@@ -187,9 +207,9 @@ cases =
     ∷ refusedWith octetsA 10 0
     ∷ refusedWith (0x02 ∷ 0x08 ∷ 0x00 ∷ 0x00 ∷ 0x02 ∷ 0x5A ∷ []) 9 33
     ∷ refusedWith (0x02 ∷ 0x08 ∷ 0x00 ∷ 0x00 ∷ 0x01 ∷ 0x5A ∷ []) 7 32
-    -- empty input; first octet 01
+    -- empty input; first octet 03
     ∷ refusedWith [] 1 0
-    ∷ refusedWith (0x01 ∷ 0x08 ∷ 0x00 ∷ 0x00 ∷ 0x00 ∷ 0x5A ∷ []) 2 0
+    ∷ refusedWith (0x03 ∷ 0x08 ∷ 0x00 ∷ 0x00 ∷ 0x00 ∷ 0x5A ∷ []) 2 0
     -- B with one octet of data, and C
     ∷ acceptedAs (octetsB ++ 0x01 ∷ []) (0x01 ∷ []) recordB 16
     ∷ acceptedAs octetsC [] recordC 16
@@ -198,6 +218,12 @@ cases =
     ∷ writtenAs recordB 1 octetsB
     ∷ writtenAs recordC 0 octetsC
     ∷ writes recordA 0 over (Writing.rejected 10 0) over
+    -- A in version 1 with one octet of data, and its last bit 1 (the presence bit of G10); written; with a standard version; Table XVIII
+    ∷ acceptedAs (octetsA1 ++ 0x5A ∷ []) (0x5A ∷ []) recordA1 4
+    ∷ refusedWith (0x01 ∷ 0x08 ∷ 0x00 ∷ 0x80 ∷ 0x5A ∷ []) 7 31
+    ∷ writtenAs recordA1 1 octetsA1
+    ∷ writes standardA1 1 over (Writing.rejected 3 0) over
+    ∷ refusedWith tableXVIII 6 31
     -- C on the empty table; B twice; B and C twice
     ∷ plays (receiving recordC 1 0 ∷ []) (26 ∷ [])
     ∷ plays (posting recordB 1 1 ∷ posting recordB 1 1 ∷ []) (0 ∷ 22 ∷ [])

@@ -19,11 +19,11 @@ use write_group::response::write_optional_response;
 use write_group::times::write_times;
 
 // A block up to the end of G7.
-fn write_message(out: &mut [u8], at: BitPlace, x: &[u8]) -> BitPlace
-    requires { ⌜ Room (now out) (at .0) ((format & handling & times) .size ((blockIn (now x)) .format, ((blockIn (now x)) .handling, (blockIn (now x)) .times))) × (length (now x) ≡ sizeOfBlock) ⌝ }
-    ensures { λ r. ⌜ Writes (format & handling & times) ((blockIn (now (x .entry))) .format, ((blockIn (now (x .entry))) .handling, (blockIn (now (x .entry))) .times)) (now (out .entry)) (now (out .exit)) (at .0) (r .0) ⌝ }
+fn write_message(out: &mut [u8], at: BitPlace, version: u32, x: &[u8]) -> BitPlace
+    requires { ⌜ Room (now out) (at .0) ((format version & handling & times) .size ((blockIn (now x)) .format, ((blockIn (now x)) .handling, (blockIn (now x)) .times))) × (length (now x) ≡ sizeOfBlock) ⌝ }
+    ensures { λ r. ⌜ Writes (format version & handling & times) ((blockIn (now (x .entry))) .format, ((blockIn (now (x .entry))) .handling, (blockIn (now (x .entry))) .times)) (now (out .entry)) (now (out .exit)) (at .0) (r .0) ⌝ }
 {
-    let at = write_format(out, at, &x[in_block::FORMAT..in_block::HANDLING]);
+    let at = write_format(out, at, version, &x[in_block::FORMAT..in_block::HANDLING]);
     let at = write_handling(out, at, &x[in_block::HANDLING..in_block::TIMES]);
     write_times(out, at, &x[in_block::TIMES..in_block::RESPONSE])
 }
@@ -38,44 +38,50 @@ fn write_tail(out: &mut [u8], at: BitPlace, x: &[u8]) -> BitPlace
     write_flag(out, at, false)
 }
 
-// A legal block.
-pub fn write_block(out: &mut [u8], at: BitPlace, x: &[u8]) -> BitPlace
-    requires { ⌜ Room (now out) (at .0) (block .size (blockIn (now x))) × (block .check (blockIn (now x)) ≡ 0) × (length (now x) ≡ sizeOfBlock) ⌝ }
-    ensures { λ r. ⌜ Writes block (blockIn (now (x .entry))) (now (out .entry)) (now (out .exit)) (at .0) (r .0) ⌝ }
+// A legal block of a record of that version.
+pub fn write_block(out: &mut [u8], at: BitPlace, version: u32, x: &[u8]) -> BitPlace
+    requires { ⌜ Room (now out) (at .0) (block version .size (blockIn (now x))) × (block version .check (blockIn (now x)) ≡ 0) × (length (now x) ≡ sizeOfBlock) ⌝ }
+    ensures { λ r. ⌜ Writes (block version) (blockIn (now (x .entry))) (now (out .entry)) (now (out .exit)) (at .0) (r .0) ⌝ }
 {
-    let at = write_message(out, at, x);
+    let at = write_message(out, at, version, x);
     write_tail(out, at, x)
 }
 
 // A recurrence bit and the block behind it, legal.
-fn write_entry(out: &mut [u8], at: BitPlace, more: bool, x: &[u8]) -> BitPlace
-    requires { ⌜ Room (now out) (at .0) (1 + block .size (blockIn (now x))) × (block .check (blockIn (now x)) ≡ 0) × (length (now x) ≡ sizeOfBlock) ⌝ }
-    ensures { λ r. ⌜ Writes (flag & block) (more, (blockIn (now (x .entry)))) (now (out .entry)) (now (out .exit)) (at .0) (r .0) ⌝ }
+fn write_entry(out: &mut [u8], at: BitPlace, version: u32, more: bool, x: &[u8]) -> BitPlace
+    requires { ⌜ Room (now out) (at .0) (1 + block version .size (blockIn (now x))) × (block version .check (blockIn (now x)) ≡ 0) × (length (now x) ≡ sizeOfBlock) ⌝ }
+    ensures { λ r. ⌜ Writes (flag & block version) (more, (blockIn (now (x .entry)))) (now (out .entry)) (now (out .exit)) (at .0) (r .0) ⌝ }
 {
     let at = write_flag(out, at, more);
-    write_block(out, at, x)
+    write_block(out, at, version, x)
 }
 
 // The entries of a legal list: every one but the last has the recurrence bit 1.
-fn write_entries(out: &mut [u8], at: BitPlace, list: &[u8], held: u32) -> BitPlace
-    requires { ⌜ Room (now out) (at .0) (blocks .size (blocksOf (now list) held)) × (blocks .check (blocksOf (now list) held) ≡ 0) × (length (now list) ≡ sizeOfBlocksList) ⌝ }
-    ensures { λ r. ⌜ Writes blocks (blocksOf (now (list .entry)) held) (now (out .entry)) (now (out .exit)) (at .0) (r .0) ⌝ }
+fn write_entries(out: &mut [u8], at: BitPlace, version: u32, list: &[u8], held: u32) -> BitPlace
+    requires { ⌜ Room (now out) (at .0) (blocks version .size (blocksOf (now list) held)) × (blocks version .check (blocksOf (now list) held) ≡ 0) × (length (now list) ≡ sizeOfBlocksList) ⌝ }
+    ensures { λ r. ⌜ Writes (blocks version) (blocksOf (now (list .entry)) held) (now (out .entry)) (now (out .exit)) (at .0) (r .0) ⌝ }
 {
     let count = held as usize;
     let mut n: usize = 0;
     let mut place = at;
     while n + 1 < count {
-        place = write_entry(out, place, true, entry(list, n, in_blocks::ENTRY));
+        place = write_entry(out, place, version, true, entry(list, n, in_blocks::ENTRY));
         n += 1;
     }
-    write_entry(out, place, false, entry(list, n, in_blocks::ENTRY))
+    write_entry(out, place, version, false, entry(list, n, in_blocks::ENTRY))
 }
 
-// A legal list of blocks.
-pub fn write_blocks(out: &mut [u8], at: BitPlace, x: &[u8]) -> BitPlace
-    requires { ⌜ Room (now out) (at .0) (blocks .size (blocksIn (now x))) × (blocks .check (blocksIn (now x)) ≡ 0) × (length (now x) ≡ sizeOfBlocks) ⌝ }
-    ensures { λ r. ⌜ Writes blocks (blocksIn (now (x .entry))) (now (out .entry)) (now (out .exit)) (at .0) (r .0) ⌝ }
+// The legal blocks of a record of that version.
+pub fn write_blocks(out: &mut [u8], at: BitPlace, version: u32, x: &[u8]) -> BitPlace
+    requires { ⌜ Room (now out) (at .0) (blocks version .size (blocksIn (now x))) × (blocks version .check (blocksIn (now x)) ≡ 0) × (length (now x) ≡ sizeOfBlocks) ⌝ }
+    ensures { λ r. ⌜ Writes (blocks version) (blocksIn (now (x .entry))) (now (out .entry)) (now (out .exit)) (at .0) (r .0) ⌝ }
 {
     let count = load_word(&x[in_blocks::COUNT..in_blocks::END]);
-    write_entries(out, at, &x[in_blocks::LIST..in_blocks::COUNT], count)
+    write_entries(
+        out,
+        at,
+        version,
+        &x[in_blocks::LIST..in_blocks::COUNT],
+        count,
+    )
 }

@@ -62,8 +62,8 @@ pub fn write_addressees(out: &mut [u8], at: BitPlace, x: &[u8]) -> BitPlace
 
 // Version, compression and G1.
 fn write_origin(out: &mut [u8], at: BitPlace, x: &[u8]) -> BitPlace
-    requires { ⌜ Room (now out) (at .0) ((number 4 2 2 2 & maybe 2 0 1 & originator) .size ((frontIn (now x)) .version, ((frontIn (now x)) .compression, (frontIn (now x)) .originator))) × (length (now x) ≡ sizeOfFront) ⌝ }
-    ensures { λ r. ⌜ Writes (number 4 2 2 2 & maybe 2 0 1 & originator) ((frontIn (now (x .entry))) .version, ((frontIn (now (x .entry))) .compression, (frontIn (now (x .entry))) .originator)) (now (out .entry)) (now (out .exit)) (at .0) (r .0) ⌝ }
+    requires { ⌜ Room (now out) (at .0) ((number 4 1 2 2 & maybe 2 0 1 & originator) .size ((frontIn (now x)) .version, ((frontIn (now x)) .compression, (frontIn (now x)) .originator))) × (length (now x) ≡ sizeOfFront) ⌝ }
+    ensures { λ r. ⌜ Writes (number 4 1 2 2 & maybe 2 0 1 & originator) ((frontIn (now (x .entry))) .version, ((frontIn (now (x .entry))) .compression, (frontIn (now (x .entry))) .originator)) (now (out .entry)) (now (out .exit)) (at .0) (r .0) ⌝ }
 {
     let at = write_word(
         out,

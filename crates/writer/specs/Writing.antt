@@ -39,7 +39,7 @@ headerOf h = octets (headerSize h) (headerBits h)
 
 -- the first refusal of the fields, in their order; 0 for none
 abbrev pub fieldsFault : Header → ℕ
-fieldsFault h = first (front .check (h .front)) (blocks .check (h .blocks))
+fieldsFault h = first (front .check (h .front)) (blocks (h .front .version) .check (h .blocks))
 
 -- the first refusal of a record with so many octets of user data: the fields, the rules, the sizes, the datagram's length; 0 for none
 unfoldable pub faultOf : Header → ℕ → ℕ

@@ -11,6 +11,7 @@ use bits::OctetSize;
 use checker::front::check_front;
 use codec::Check;
 use codec::Fault;
+use leaves::setting::front_version;
 use leaves::setting::setting_of;
 use record_octets::RECORD;
 use record_octets::in_header;
@@ -52,9 +53,10 @@ fn survey_record(h: &[u8], count: OctetSize) -> Survey
     let Check::Fine = front else {
         return broken_off(front);
     };
+    let version = front_version(&h[in_header::FRONT..in_header::SIZED]);
     let x = setting_of(h);
     let at = wire::blocks_place(h);
-    survey_blocks(x, &h[in_header::BLOCKS..in_header::END], count, at)
+    survey_blocks(version, x, &h[in_header::BLOCKS..in_header::END], count, at)
 }
 
 // Whether a record is valid with so many octets of user data: the fields, then the rules (8), the

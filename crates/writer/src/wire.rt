@@ -15,6 +15,7 @@ use bits::OctetSize;
 use cells::load_flag;
 use ends::front::end_front;
 use header::layout::HEADER_SIZE;
+use leaves::setting::front_version;
 use optional::OptionalNumber;
 use optional::end_optional;
 use optional::write_optional;
@@ -26,7 +27,7 @@ use write_front::front::write_front;
 // all fields do, and there is room in a datagram for the longest.
 pub fn blocks_place(h: &[u8]) -> BitPlace
     requires { ⌜ (front .check (headerIn (now h) .front) ≡ 0) × (length (now h) ≡ sizeOfHeader) ⌝ }
-    ensures { λ r. ⌜ (r .0 + blocks .size (headerIn (now (h .entry)) .blocks) ≡ fieldsEnd (headerIn (now (h .entry)))) × Placed (r .0) 53056 ⌝ }
+    ensures { λ r. ⌜ (r .0 + blocks (headerIn (now (h .entry)) .front .version) .size (headerIn (now (h .entry)) .blocks) ≡ fieldsEnd (headerIn (now (h .entry)))) × Placed (r .0) 53056 ⌝ }
 {
     let sized = load_flag(&h[in_header::SIZED..in_header::BLOCKS]);
     let size = OptionalNumber {
@@ -50,6 +51,15 @@ fn write_size(out: &mut [u8], at: BitPlace, h: &[u8], size: u32) -> BitPlace
     write_optional(out, at, HEADER_SIZE, number)
 }
 
+// The legal blocks of a record, laid out by its version.
+fn write_messages(out: &mut [u8], at: BitPlace, h: &[u8]) -> BitPlace
+    requires { ⌜ Room (now out) (at .0) (blocks (headerIn (now h) .front .version) .size (headerIn (now h) .blocks)) × (blocks (headerIn (now h) .front .version) .check (headerIn (now h) .blocks) ≡ 0) × (length (now h) ≡ sizeOfHeader) ⌝ }
+    ensures { λ r. ⌜ Writes (blocks (headerIn (now (h .entry)) .front .version)) (headerIn (now (h .entry)) .blocks) (now (out .entry)) (now (out .exit)) (at .0) (r .0) ⌝ }
+{
+    let version = front_version(&h[in_header::FRONT..in_header::SIZED]);
+    write_blocks(out, at, version, &h[in_header::BLOCKS..in_header::END])
+}
+
 // Every field of the table, legal, with this header size where there is one.
 fn write_fields(out: &mut [u8], at: BitPlace, h: &[u8], size: u32) -> BitPlace
     requires { ⌜ Room (now out) (at .0) (wire .size (wireOf (headerIn (now h)) size)) × (wire .check (wireOf (headerIn (now h)) size) ≡ 0) × (length (now h) ≡ sizeOfHeader) ⌝ }
@@ -57,7 +67,7 @@ fn write_fields(out: &mut [u8], at: BitPlace, h: &[u8], size: u32) -> BitPlace
 {
     let at = write_front(out, at, &h[in_header::FRONT..in_header::SIZED]);
     let at = write_size(out, at, h, size);
-    write_blocks(out, at, &h[in_header::BLOCKS..in_header::END])
+    write_messages(out, at, h)
 }
 
 // The fill bits from a place up to a whole octet, all 0.

@@ -213,7 +213,8 @@ pub fn run() {
         "| ns a call | octets | proved | fast | ratio | words | ratio | by value | ratio | proved MB/s | fast MB/s |"
     );
     println!("|---|---|---|---|---|---|---|---|---|---|---|");
-    let heads = &list[..3];
+    let old = samples::typical_old();
+    let heads = [&list[0], &list[1], &old, &list[2]];
     heads.iter().for_each(|s| print(&reading(s)));
     heads.iter().for_each(|s| print(&writing(s)));
     heads.iter().for_each(|s| print(&checking(s)));

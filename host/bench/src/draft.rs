@@ -50,7 +50,7 @@ fn list(random: &mut Random, most: usize) -> OptionalAddresses {
 
 fn front(random: &mut Random) -> Front {
     let mut front = fast::NO_HEADER.front;
-    front.version = 2;
+    front.version = 1 + random.below(2) as u32;
     if !random.once_in(8) {
         front.originator = OptionalAddress { present: true, address: address(random) };
     }
@@ -145,6 +145,7 @@ pub fn header(random: &mut Random) -> (Box<Header>, usize) {
     for b in &mut h.blocks.list[..blocks] {
         let size = 1 + random.below(9);
         *b = if random.once_in(2) { answer(random) } else { posting(random, size as u32) };
+        b.format.version.present &= h.front.version != 1 || random.once_in(16);
         count += b.handling.size.value as usize;
     }
     h.blocks.count = blocks as u32;

@@ -137,7 +137,7 @@ impl Compared {
 /// All headers and tables that are measured.
 fn measured(compared: &mut Compared) {
     let mut list = vec![samples::small(), samples::typical(), samples::largest()];
-    list.extend([samples::largest_posting(), samples::named_receipt()]);
+    list.extend([samples::typical_old(), samples::largest_posting(), samples::named_receipt()]);
     for count in [1, 2, 4, 8, 16] {
         list.extend([samples::plain_blocks(count), samples::full_blocks(count)]);
     }

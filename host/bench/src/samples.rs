@@ -83,6 +83,13 @@ pub fn typical() -> Sample {
     Sample::new("typical", &header, DATA)
 }
 
+/// The same in version 1.
+pub fn typical_old() -> Sample {
+    let mut header = typical().header;
+    header.front.version = 1;
+    Sample::new("typical, version 1", &header, DATA)
+}
+
 /// Names as long as they may be: 64 characters, or 63 and the marker, which are as many bits.
 fn longest_name(number: usize) -> Address {
     named(&format!("{number:02} {}", "N".repeat(61 - number % 2)))

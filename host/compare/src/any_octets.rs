@@ -38,7 +38,7 @@ pub fn any(run: &mut Run) -> Lending {
     let mut record = any_octets(random);
     match random.below(4) {
         0 => {}
-        1 => put(&mut record, VERSION, 2),
+        1 => put(&mut record, VERSION, records::version(random)),
         _ => aim(&mut record, &run.places, random),
     }
     let (count, block) = (*random.pick(&[0, 1, 2, 7, 40]), 1 + random.below(3));
@@ -60,7 +60,7 @@ fn aim(record: &mut RecordOctets, places: &Places, random: &mut Random) {
         put(record, *at, number);
     }
     if !random.one_in(16) {
-        put(record, VERSION, 2);
+        put(record, VERSION, records::version(random));
     }
     if !random.one_in(8) {
         put(record, COUNT, 1 + random.below(2));

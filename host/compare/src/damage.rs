@@ -40,7 +40,13 @@ impl Damage {
 pub fn all() -> Vec<Damage> {
     let mut list = Vec::new();
     list.push(damage("version".into(), 2, |case, random| {
-        case.record.version = *random.pick(&[0, 1, 3, 15, 18, 2 + (1 << 31), u32::MAX]);
+        case.record.version =
+            *random.pick(&[0, 3, 15, 17, 18, 1 + (1 << 31), 2 + (1 << 31), u32::MAX]);
+        true
+    }));
+    list.push(damage("standard version in version 1".into(), 3, |case, random| {
+        case.record.version = 1;
+        block(&mut case.record, random).standard_version = Some(random.below(20));
         true
     }));
     add_numbers(&mut list);

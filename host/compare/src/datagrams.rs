@@ -33,12 +33,13 @@ pub fn changed(datagram: &[u8], random: &mut Random) -> Vec<u8> {
     octets
 }
 
-/// Octets without sense. Most begin with the legal version, as the rest are refused at once.
+/// Octets without sense. Most begin with a legal version, as the rest are refused at once.
 pub fn noise(random: &mut Random) -> Vec<u8> {
     let length = random.index(90);
     let mut octets = random.octets(length);
     if random.below(8) > 0 {
-        octets.first_mut().into_iter().for_each(|octet| *octet = (*octet & 0xF0) | 2);
+        let version = records::version(random) as u8;
+        octets.first_mut().into_iter().for_each(|octet| *octet = (*octet & 0xF0) | version);
     }
     // Fewer ones: fewer groups, and so a better chance to get to the end.
     if random.coin() {

@@ -38,7 +38,7 @@ fn fields(record: &Header, extra: Extra, size: u32) -> BitWriter {
     bits.optional_number(record.sized.then_some(size), 16);
     for (i, b) in record.blocks.iter().enumerate() {
         bits.flag(i + 1 < record.blocks.len());
-        block(&mut bits, b);
+        block(&mut bits, b, record.version);
         bits.flag(extra.security == Some(i));
     }
     bits
@@ -68,9 +68,12 @@ fn stamp(bits: &mut BitWriter, s: &Stamp) {
     bits.optional_number(s.extension, 12);
 }
 
-fn block(bits: &mut BitWriter, b: &Block) {
+/// A standard version that version 1 does not have stands there all the same: to a reader its bits are other fields.
+fn block(bits: &mut BitWriter, b: &Block, version: u32) {
     bits.number(b.umf, 4);
-    bits.optional_number(b.standard_version, 4);
+    if version != 1 || b.standard_version.is_some() {
+        bits.optional_number(b.standard_version, 4);
+    }
     bits.flag(b.identity.is_some());
     if let Some(identity) = &b.identity {
         bits.number(identity.fad, 4);

@@ -45,11 +45,11 @@ fn stamp(second: u32) -> Stamp {
     Stamp { dtg, extension: Some(second) }
 }
 
-/// Every part that a message and an answer may both have.
-fn full_block() -> Block {
+/// Every part that a message and an answer may both have; version 1 has no standard version.
+fn full_block(version: u32) -> Block {
     let referred = |address, second| Reference { address, stamp: stamp(second) };
     let mut block = bare_block();
-    block.standard_version = Some(3);
+    block.standard_version = (version != 1).then_some(3);
     block.identity = Some(Identity { fad: 5, number: 77, subtype: Some(33) });
     block.file_name = Some(b"ORDERS".to_vec());
     block.marking = Some(b"ALL".to_vec());
@@ -63,16 +63,16 @@ fn full_block() -> Block {
     block
 }
 
-fn message() -> Block {
-    let mut block = full_block();
+fn message(version: u32) -> Block {
+    let mut block = full_block(version);
     block.perishable = Some(stamp(6).dtg);
     block.requests = Some(Requests { machine: true, acknowledge: true, reply: true });
     block
 }
 
 /// Code 2, which answers all that is open.
-fn answer() -> Block {
-    let mut block = full_block();
+fn answer(version: u32) -> Block {
+    let mut block = full_block(version);
     let amplification = Some(b"NO".to_vec());
     let (cantco, cantpro) = (None, Some(44));
     block.response = Some(Response { stamp: stamp(7), code: 2, cantco, cantpro, amplification });
@@ -88,8 +88,9 @@ fn answered() -> Board {
 }
 
 /// From URN 8 to the given lists; the block is the last of so many, the others are bare.
-fn base(to: [Option<Vec<Address>>; 2], blocks: usize, last: Block) -> Base {
+fn base(version: u32, to: [Option<Vec<Address>>; 2], blocks: usize, last: Block) -> Base {
     let mut header: Header = bare_header();
+    header.version = version;
     header.originator = Some(urn(8));
     [header.recipients, header.information] = to;
     header.sized = true;
@@ -112,15 +113,17 @@ fn crowd() -> Option<Vec<Address>> {
     Some((0..16).map(one).collect())
 }
 
-/// Records among which the flag at an offset makes a difference in one.
-fn bases(offset: usize) -> Vec<Base> {
+/// Records of a version among which the flag at an offset makes a difference in one.
+fn bases(version: u32, offset: usize) -> Vec<Base> {
     let start = offset_of!(pruvelaccio::Header, blocks.list);
     if offset < start {
-        return vec![base([crowd(), None], 1, message()), base([None, crowd()], 1, message())];
+        return [[crowd(), None], [None, crowd()]]
+            .map(|to| base(version, to, 1, message(version)))
+            .into();
     }
     let blocks = (offset - start) / size_of::<pruvelaccio::Block>() + 1;
     let to = || [Some(vec![urn(9)]), None];
-    vec![base(to(), blocks, message()), base(to(), blocks, answer())]
+    [message(version), answer(version)].map(|last| base(version, to(), blocks, last)).into()
 }
 
 // ---------------------------------------------------------------------------
@@ -171,8 +174,8 @@ fn compare(base: &Base, record: &RecordOctets, due: &Expected) -> Result<(), Str
 }
 
 /// All octets in the flag at an offset, in the first record where it makes a difference.
-fn compare_flag(offset: usize) -> Result<(), String> {
-    for mut base in bases(offset) {
+fn compare_flag(version: u32, offset: usize) -> Result<(), String> {
+    for mut base in bases(version, offset) {
         let due = [0, 1].map(|octet| {
             base.record.octets_mut()[offset] = octet;
             expected(&base, &base.record)
@@ -193,9 +196,9 @@ fn compare_flag(offset: usize) -> Result<(), String> {
 /// How many flags were tried.
 pub fn compare_all() -> Result<usize, String> {
     let flags = Places::of::<pruvelaccio::Header>().flags;
-    for offset in &flags {
-        let told = |text| format!("the flag at offset {offset}: {text}");
-        caught(|| compare_flag(*offset)).map_err(told)?;
+    for (version, offset) in flags.iter().flat_map(|offset| [(1, offset), (2, offset)]) {
+        let told = |text| format!("version {version}, the flag at offset {offset}: {text}");
+        caught(|| compare_flag(version, *offset)).map_err(told)?;
     }
     Ok(flags.len())
 }

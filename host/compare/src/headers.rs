@@ -88,6 +88,9 @@ fn check_and_write(run: &mut Run, case: &Case) -> Result<Option<Vec<u8>>, String
     let plain = reference::check(&case.record, case.count);
     same_size("check", plain, library::check(&header, case.count as usize)?)?;
     run.tally.note(Kind::Check, plain.err().unwrap_or(0))?;
+    run.tally.record_versions.note(case.record.version, plain.is_ok());
+    let standard = case.record.blocks.iter().any(|block| block.standard_version.is_some());
+    run.tally.needless_standards += u64::from(case.record.version == 1 && standard);
     let Ok(length) = plain else {
         // Too little room or enough: a refusal of the record comes before 11.
         let room = if run.random.coin() { 0 } else { run.random.index(400) };
@@ -133,6 +136,8 @@ fn read_and_write(run: &mut Run, datagram: &[u8]) -> Result<Option<Header>, Stri
     let plain = reference::read(datagram);
     compare_reading(run, datagram, &plain)?;
     run.tally.note(Kind::Read, plain.as_ref().err().map_or(0, |refusal| refusal.0))?;
+    let version = datagram.first().map_or(0, |octet| octet & 15);
+    run.tally.datagram_versions.note(u32::from(version), plain.is_ok());
     same_data(datagram)?;
     let Ok((record, length)) = plain else { return Ok(None) };
 

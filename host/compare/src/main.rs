@@ -118,7 +118,7 @@ fn compare_all(options: &Options, mut tally: Tally) -> Result<Tally, String> {
 
 /// What is tried once, whatever the seeds are: every octet of a table, every octet in a flag, several threads.
 fn compare_once() -> Result<(), String> {
-    println!("flags: every octet in each of {} flags of a record", flags::compare_all()?);
+    println!("flags: every octet in each of {} flags, in both versions", flags::compare_all()?);
     let each_octet::Changes { tried, done } = each_octet::compare_flags(FIXED_SEED)?;
     println!(
         "flags: {tried} changes of a row's and a key's, after {done} of them all four calls done"

@@ -123,6 +123,7 @@ fn with_sizes(mut record: Header, random: &mut Random) -> Case {
 /// A message of one or more blocks, some of which may be answers.
 pub fn message(pool: &Pool, random: &mut Random) -> Case {
     let mut record = bare_header();
+    record.version = records::version(random);
     record.originator = Some(pool.address(random));
     record.recipients = Some(pool.addressees(random)).filter(|_| !random.one_in(16));
     record.blocks.clear();
@@ -139,6 +140,7 @@ pub fn message(pool: &Pool, random: &mut Random) -> Case {
 /// A receipt for a key from an answerer; now and then without one of the two, or for two keys at once.
 pub fn receipt(key: Key, answerer: Address, random: &mut Random) -> Case {
     let mut record = bare_header();
+    record.version = records::version(random);
     record.originator = Some(answerer).filter(|_| !random.one_in(24));
     record.recipients = match random.below(36) {
         0 => None,

@@ -14,10 +14,19 @@ use crate::run::Run;
 const B: &str = "E26700001D0000000100C137E076330001";
 const C: &str = "E20100007D060000010008BE01B75B00";
 
+/// The same two in version 1, worked out from the layout: every bit behind the UMF stands one place lower.
+const OLD_B: &str = "E16700001D0000000180E01B70BB190001";
+const OLD_C: &str = "E10100007D060000010004DF80DB2D00";
+
 /// What is listed after nothing, after B, and after B and C.
 const NONE: &str = "rows 0\n";
 const OPEN: &str = "rows 1\n207 96-07-03 16:27:55 - asked m\n  3 m=?\n";
 const SETTLED: &str = "rows 1\n207 96-07-03 16:27:55 - asked m\n  3 m=1\n";
+
+/// And after the sample: B and C, and in version 1 a message from URN 9 at 16:30:00 with its receipt.
+const SAMPLE: &str = "rows 2\n\
+    9 96-07-03 16:30:00 - asked m\n\x20 3 m=1\n\
+    207 96-07-03 16:27:55 - asked m\n\x20 3 m=1\n";
 
 struct Named {
     name: &'static str,
@@ -47,6 +56,19 @@ fn digits() -> Vec<Named> {
         named("a digit g", format!("{B}\n{}\n", C.replace('7', "g")), OPEN),
         named("a prefix 0x", format!("0x{B}\n"), NONE),
         named("octets that are no characters", [b"\xFF\x00\x80\n", B.as_bytes()].concat(), OPEN),
+    ]
+}
+
+fn versions() -> Vec<Named> {
+    vec![
+        named("B in version 1", format!("{OLD_B}\n"), OPEN),
+        named("B and C in version 1", format!("{OLD_B}\n{OLD_C}\n"), SETTLED),
+        named("B in version 1, C in version 2", format!("{OLD_B}\n{C}\n"), SETTLED),
+        named("B in version 2, C in version 1", format!("{B}\n{OLD_C}\n"), SETTLED),
+        named("B in both versions", format!("{B}\n{OLD_B}\n"), OPEN),
+        named("the sample", include_str!("../../../samples/messages.txt"), SAMPLE),
+        named("B with 1 in front", format!("E1{}\n", &B[2..]), NONE),
+        named("version 1's B with 2 in front", format!("E2{}\n", &OLD_B[2..]), NONE),
     ]
 }
 
@@ -87,7 +109,7 @@ fn ends() -> Vec<Named> {
         named("a line feed", "\n", NONE),
         named("only line feeds", "\n".repeat(5_000), NONE),
         named("two datagrams in one line", format!("{B}{C}\n"), OPEN),
-        named("a datagram that is refused", format!("{B}\n01{}\n{C}\n", &C[2..]), SETTLED),
+        named("a datagram that is refused", format!("{B}\n03{}\n{C}\n", &C[2..]), SETTLED),
         named("a datagram cut short", format!("{B}\n{}\n", &C[..C.len() - 2]), OPEN),
         named("C before B", format!("{C}\n{B}\n"), OPEN),
         named("B and C twice", format!("{B}\n{B}\n{C}\n{C}\n"), SETTLED),
@@ -205,7 +227,7 @@ fn several() -> Named {
 
 pub fn compare_named(run: &mut Run) -> Result<(), String> {
     let mut list: Vec<Named> =
-        [digits(), lengths(), ends(), borders()].into_iter().flatten().collect();
+        [digits(), versions(), lengths(), ends(), borders()].into_iter().flatten().collect();
     list.extend([names(), keys(), full(), several()]);
     for case in &list {
         let compared = program::compare(run, &case.input, Some(&case.output));

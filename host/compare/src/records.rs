@@ -34,6 +34,11 @@ pub fn bare_block() -> Block {
     }
 }
 
+/// Both versions, in equal shares.
+pub fn version(random: &mut Random) -> u32 {
+    1 + random.below(2)
+}
+
 pub fn bare_header() -> Header {
     Header {
         version: 2,
@@ -176,7 +181,7 @@ impl Maker<'_> {
         let answers = front.compression.is_none() && umf != 4 && self.random.one_in(3);
         let mut block = Block {
             umf,
-            standard_version: self.maybe(|m| m.number(16)),
+            standard_version: self.maybe(|m| m.number(16)).filter(|_| front.version != 1),
             identity: self.maybe(|m| m.identity()).filter(|_| !no_identity),
             file_name: self.maybe(|m| m.text(MAX_FILE_NAME)),
             message_size: None,
@@ -206,7 +211,7 @@ impl Maker<'_> {
         let recipients = self.maybe(|m| m.addresses(MAX_ADDRESSEES));
         let room = MAX_ADDRESSEES - recipients.as_ref().map_or(0, Vec::len);
         Header {
-            version: 2,
+            version: version(self.random),
             compression: self.maybe(|m| m.number(2)).filter(|_| self.random.coin()),
             originator: self.maybe(|m| m.address()),
             recipients,

@@ -56,8 +56,45 @@ const NUMBERS: [u32; 24] =
 
 pub const LEAST: u64 = 50;
 
+/// How often each version came up, in what was taken and in what was refused; any other version stands first.
+#[derive(Clone, Copy, Default)]
+pub struct Versions {
+    taken: [u64; 3],
+    refused: [u64; 3],
+}
+
+impl Versions {
+    pub fn note(&mut self, version: u32, taken: bool) {
+        let counts = if taken { &mut self.taken } else { &mut self.refused };
+        counts[if version == 1 || version == 2 { version as usize } else { 0 }] += 1;
+    }
+
+    fn add(&mut self, other: &Versions) {
+        for (sums, counts) in
+            [(&mut self.taken, &other.taken), (&mut self.refused, &other.refused)]
+        {
+            sums.iter_mut().zip(counts).for_each(|(sum, n)| *sum += n);
+        }
+    }
+
+    fn print(&self, what: &str) {
+        let words = |c: &[u64; 3]| format!("{} of version 1, {} of 2, {} of others", c[1], c[2], c[0]);
+        println!("{what} taken: {}; refused: {}", words(&self.taken), words(&self.refused));
+    }
+
+    /// Each version has at least 4 of 10, in what was taken and in what was refused.
+    fn shares_equal(&self) -> bool {
+        [self.taken, self.refused].iter().all(|c| 10 * c[1].min(c[2]) >= 4 * (c[1] + c[2]))
+    }
+}
+
 pub struct Tally {
     seen: [[u64; 31]; KINDS.len()],
+    /// Of the records that were checked, and of the datagrams that were read.
+    pub record_versions: Versions,
+    pub datagram_versions: Versions,
+    /// Records of version 1 with a standard version, which it does not have.
+    pub needless_standards: u64,
     pub records: u64,
     /// Whole records of octets.
     pub octets: u64,
@@ -73,7 +110,20 @@ impl Tally {
     pub fn new() -> Tally {
         let seen = [[0; 31]; KINDS.len()];
         let (records, octets, tables, datagrams) = (0, 0, 0, 0);
-        Tally { seen, records, octets, tables, datagrams, calls: 0, rows: 0, programs: 0 }
+        let (record_versions, datagram_versions) = (Versions::default(), Versions::default());
+        Tally {
+            seen,
+            record_versions,
+            datagram_versions,
+            needless_standards: 0,
+            records,
+            octets,
+            tables,
+            datagrams,
+            calls: 0,
+            rows: 0,
+            programs: 0,
+        }
     }
 
     /// Adds another run's counts.
@@ -81,6 +131,9 @@ impl Tally {
         for (sums, seen) in self.seen.iter_mut().zip(&other.seen) {
             sums.iter_mut().zip(seen).for_each(|(sum, n)| *sum += n);
         }
+        self.record_versions.add(&other.record_versions);
+        self.datagram_versions.add(&other.datagram_versions);
+        self.needless_standards += other.needless_standards;
         self.records += other.records;
         self.octets += other.octets;
         self.tables += other.tables;
@@ -112,6 +165,9 @@ impl Tally {
             println!("{:<8}{}{:>wide$}", "refusal", names.collect::<String>(), "all");
             NUMBERS.iter().for_each(|number| self.print_line(*number, kinds.clone(), wide));
         }
+        self.record_versions.print("records");
+        self.datagram_versions.print("datagrams");
+        println!("records of version 1 with a standard version: {}", self.needless_standards);
     }
 
     fn print_line(&self, number: u32, kinds: Range<usize>, wide: usize) {
@@ -137,6 +193,12 @@ impl Tally {
             for number in numbers.filter(|n| seen[*n as usize] < LEAST) {
                 lacking.push(format!("{name} {number}: {} times", seen[number as usize]));
             }
+        }
+        if !self.record_versions.shares_equal() || !self.datagram_versions.shares_equal() {
+            lacking.push("the versions' shares are not equal".to_string());
+        }
+        if self.needless_standards < LEAST {
+            lacking.push("records of version 1 with a standard version".to_string());
         }
         lacking
     }

@@ -166,7 +166,7 @@ impl Block {
         block
     }
 
-    /// The message standard version.
+    /// The message standard version, which a record of version 1 does not have.
     pub const fn with_version(mut self, number: u32) -> Block {
         self.format.version = OptionalNumber::some(number);
         self
@@ -239,6 +239,12 @@ impl Header {
         header.front.version = 2;
         header.blocks.count = put(blocks, &mut header.blocks.list);
         header
+    }
+
+    /// Another version: 1 is the one of old terminals, whose blocks have no message standard version.
+    pub const fn with_version(mut self, number: u32) -> Header {
+        self.front.version = number;
+        self
     }
 
     pub const fn with_compression(mut self, code: u32) -> Header {

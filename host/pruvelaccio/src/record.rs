@@ -59,6 +59,7 @@ pub struct OptionalAddresses {
 #[repr(C)]
 #[derive(Clone, Copy, Debug)]
 pub struct Front {
+    /// 1 or 2
     pub version: u32,
     pub compression: OptionalNumber,
     /// G1
@@ -136,6 +137,7 @@ pub struct OptionalIdentity {
 #[derive(Clone, Copy, Debug)]
 pub struct Format {
     pub umf: u32,
+    /// The message standard version, absent in a record of version 1
     pub version: OptionalNumber,
     pub identity: OptionalIdentity,
     pub file: OptionalText,

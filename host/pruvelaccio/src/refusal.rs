@@ -14,8 +14,8 @@ impl Refusal {
     pub fn meaning(&self) -> &'static str {
         match self.number {
             1 => "the bits end inside a field",
-            2 => "the version is not legal",
-            3 => "another code is not legal",
+            2 => "the version is neither 1 nor 2",
+            3 => "another code is not legal, or a record of version 1 has a standard version",
             4 => "a text is empty, or a character or a length of it is bad",
             5 => "a list of addressees, blocks or references is longer than it may be, or empty",
             6 => "an address has both forms or neither",

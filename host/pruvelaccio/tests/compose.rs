@@ -64,17 +64,42 @@ fn composed_records_are_those_filled_in_by_hand() {
     assert_eq!(RecordOctets::from(&composed_receipts()), RecordOctets::from(&receipts()));
 }
 
+/// The same record in version 1, which has no message standard version.
+fn in_version_1(mut header: Header) -> Header {
+    header.blocks.list[0].format.version = Header::zero().blocks.list[0].format.version;
+    header.with_version(1)
+}
+
 /// The octets are put together bit by bit in the order of Table I.
 #[test]
 fn composed_records_are_written() {
     for (header, count) in [(composed_message(), MESSAGE_DATA), (composed_receipts(), 0)] {
-        let mut out = [0; 8192];
-        let length = write(&header, count, &mut out).expect("a valid record");
-        assert_eq!(out[..length], support::header_octets(&header));
+        for header in [in_version_1(header), header] {
+            let mut out = [0; 8192];
+            let length = write(&header, count, &mut out).expect("a valid record");
+            assert_eq!(out[..length], support::header_octets(&header));
+        }
     }
 }
 
-/// Document 01's A, B and C.
+/// What version 1 lacks is refused in words; both versions are posted and answered alike.
+#[test]
+fn versions_1_and_2() {
+    let refused = |header: &Header| check(header, MESSAGE_DATA).expect_err("not valid");
+    let standard = refused(&composed_message().with_version(1));
+    assert_eq!(standard.number, 3);
+    assert!(standard.to_string().contains("a record of version 1 has a standard version"));
+    for version in [0, 3, 15, 17, 18] {
+        assert_eq!(refused(&in_version_1(composed_message()).with_version(version)).number, 2);
+    }
+    let mut table = Table::empty();
+    table.post(&in_version_1(composed_message()), 1, MESSAGE_DATA).expect("version 1");
+    let again = table.post(&composed_message(), 1, MESSAGE_DATA).expect_err("the same key");
+    assert_eq!(again.number, 22);
+    assert_eq!(table.receipt(&composed_receipts().with_version(1), 1, 0), Ok(()));
+}
+
+/// Document 01's A, B and C, and the same in version 1.
 #[test]
 fn composed_records_are_document_01s() {
     let asked = Requests { machine: true, acknowledge: false, reply: false };
@@ -86,12 +111,18 @@ fn composed_records_are_document_01s() {
     };
     let b = [0xE2, 0x67, 0, 0, 0x1D, 0, 0, 0, 0x01, 0, 0xC1, 0x37, 0xE0, 0x76, 0x33, 0];
     let c = [0xE2, 0x01, 0, 0, 0x7D, 0x06, 0, 0, 0x01, 0, 0x08, 0xBE, 0x01, 0xB7, 0x5B, 0];
+    // in version 1 every bit behind the UMF stands one place lower
+    let old_b = [0xE1, 0x67, 0, 0, 0x1D, 0, 0, 0, 0x01, 0x80, 0xE0, 0x1B, 0x70, 0xBB, 0x19, 0];
+    let old_c = [0xE1, 0x01, 0, 0, 0x7D, 0x06, 0, 0, 0x01, 0, 0x04, 0xDF, 0x80, 0xDB, 0x2D, 0];
     let asking = Block::new(2).with_origin(moment).with_requests(asked);
     let answering = Block::new(2).with_response(Response::new(moment, 1));
     for (header, count, octets) in [
         (Header::new(&[Block::new(2)]), 1, &[0x02, 0x08, 0, 0, 0][..]),
         (to(207, 3, asking), 1, &b),
         (to(3, 207, answering), 0, &c),
+        (Header::new(&[Block::new(2)]).with_version(1), 1, &[0x01, 0x08, 0, 0]),
+        (to(207, 3, asking).with_version(1), 1, &old_b),
+        (to(3, 207, answering).with_version(1), 0, &old_c),
     ] {
         let mut out = [0; 8192];
         let length = write(&header, count, &mut out).expect("a valid record");

@@ -26,7 +26,14 @@ pub const MAX_DIGITS: usize = 16_384;
 pub const MARKER: u8 = 127;
 
 pub fn legal_version(value: u32) -> bool {
-    value == 2
+    value == 1 || value == 2
+}
+
+/// Whether blocks of this version have room for a standard version, and with
+/// it the presence bit in front. Version 1 has neither. This is all that the
+/// two layouts differ in, so it is asked here and nowhere else.
+pub(crate) fn has_standard_version(version: u32) -> bool {
+    version == 2
 }
 
 pub fn legal_compression(value: u32) -> bool {

@@ -62,11 +62,7 @@ fn read_fields(r: &mut BitReader) -> Result<(Header, Option<u32>), Refusal> {
         None
     };
 
-    let originator = if r.flag()? {
-        Some(read_address(r)?)
-    } else {
-        None
-    };
+    let originator = optional(r, read_address)?;
 
     let recipients = if r.flag()? {
         Some(read_addressees(r, 0)?)
@@ -77,28 +73,10 @@ fn read_fields(r: &mut BitReader) -> Result<(Header, Option<u32>), Refusal> {
         Some(list) => list.len(),
         None => 0,
     };
-
-    let presence = r.place;
-    let information = if r.flag()? {
-        // The group would hold at least one, and there is no room for it.
-        if taken >= MAX_ADDRESSEES {
-            return Err((5, presence));
-        }
-        Some(read_addressees(r, taken)?)
-    } else {
-        None
-    };
+    let information = read_information(r, taken)?;
 
     let told_size = r.optional_number(16)?;
-
-    let mut blocks: Vec<Block> = Vec::new();
-    loop {
-        let again = read_recurrence(r, blocks.len(), MAX_BLOCKS)?;
-        blocks.push(read_block(r)?);
-        if !again {
-            break;
-        }
-    }
+    let blocks = read_blocks(r, version)?;
 
     let header = Header {
         version,
@@ -110,6 +88,18 @@ fn read_fields(r: &mut BitReader) -> Result<(Header, Option<u32>), Refusal> {
         blocks,
     };
     Ok((header, told_size))
+}
+
+/// `[x]` for an x that is more than one number or text.
+fn optional<T>(
+    r: &mut BitReader,
+    part: fn(&mut BitReader) -> Result<T, Refusal>,
+) -> Result<Option<T>, Refusal> {
+    if r.flag()? {
+        Ok(Some(part(r)?))
+    } else {
+        Ok(None)
+    }
 }
 
 /// The bit in front of an entry, which asks for another one after it. `before`
@@ -134,6 +124,31 @@ fn read_addressees(r: &mut BitReader, taken: usize) -> Result<Vec<Address>, Refu
         }
     }
     Ok(list)
+}
+
+/// The second list of addressees, `taken` places being used up by the first.
+fn read_information(r: &mut BitReader, taken: usize) -> Result<Option<Vec<Address>>, Refusal> {
+    let presence = r.place;
+    if !r.flag()? {
+        return Ok(None);
+    }
+    // The group would hold at least one, and there is no room for it.
+    if taken >= MAX_ADDRESSEES {
+        return Err((5, presence));
+    }
+    Ok(Some(read_addressees(r, taken)?))
+}
+
+fn read_blocks(r: &mut BitReader, version: u32) -> Result<Vec<Block>, Refusal> {
+    let mut blocks: Vec<Block> = Vec::new();
+    loop {
+        let again = read_recurrence(r, blocks.len(), MAX_BLOCKS)?;
+        blocks.push(read_block(r, version)?);
+        if !again {
+            break;
+        }
+    }
+    Ok(blocks)
 }
 
 /// The second indicator decides whether exactly one form is there, so it is
@@ -171,19 +186,10 @@ fn read_stamp(r: &mut BitReader) -> Result<Stamp, Refusal> {
 }
 
 /// A block without the recurrence bit in front of it.
-fn read_block(r: &mut BitReader) -> Result<Block, Refusal> {
+fn read_block(r: &mut BitReader, version: u32) -> Result<Block, Refusal> {
     let umf = r.code(4, legal_umf, 3)?;
-    let standard_version = r.optional_number(4)?;
-
-    let identity = if r.flag()? {
-        let fad = r.number(4)?;
-        let number = r.number(7)?;
-        let subtype = r.optional_number(7)?;
-        Some(Identity { fad, number, subtype })
-    } else {
-        None
-    };
-
+    let standard_version = read_standard_version(r, version)?;
+    let identity = optional(r, read_identity)?;
     let file_name = r.optional_text(MAX_FILE_NAME)?;
     let message_size = r.optional_number(20)?;
     let operation = r.number(2)?;
@@ -191,45 +197,12 @@ fn read_block(r: &mut BitReader) -> Result<Block, Refusal> {
     let precedence = r.number(3)?;
     let classification = r.number(2)?;
     let marking = r.optional_text(MAX_MARKING)?;
-
-    let stamp = if r.flag()? {
-        Some(read_stamp(r)?)
-    } else {
-        None
-    };
-
-    let perishable = if r.flag()? {
-        Some(read_dtg(r)?)
-    } else {
-        None
-    };
-
-    let requests = if r.flag()? {
-        let machine = r.flag()?;
-        let acknowledge = r.flag()?;
-        let reply = r.flag()?;
-        Some(Requests { machine, acknowledge, reply })
-    } else {
-        None
-    };
-
-    let response = if r.flag()? {
-        Some(read_response(r)?)
-    } else {
-        None
-    };
-
-    let references = if r.flag()? {
-        Some(read_references(r)?)
-    } else {
-        None
-    };
-
-    // The security group is not carried, so its presence is a refusal.
-    let security = r.place;
-    if r.flag()? {
-        return Err((7, security));
-    }
+    let stamp = optional(r, read_stamp)?;
+    let perishable = optional(r, read_dtg)?;
+    let requests = optional(r, read_requests)?;
+    let response = optional(r, read_response)?;
+    let references = optional(r, read_references)?;
+    read_no_security(r)?;
 
     Ok(Block {
         umf,
@@ -248,6 +221,39 @@ fn read_block(r: &mut BitReader) -> Result<Block, Refusal> {
         response,
         references,
     })
+}
+
+/// In version 1 the next bit is already G4's: not even a presence bit may be
+/// taken off here.
+fn read_standard_version(r: &mut BitReader, version: u32) -> Result<Option<u32>, Refusal> {
+    if has_standard_version(version) {
+        r.optional_number(4)
+    } else {
+        Ok(None)
+    }
+}
+
+fn read_identity(r: &mut BitReader) -> Result<Identity, Refusal> {
+    let fad = r.number(4)?;
+    let number = r.number(7)?;
+    let subtype = r.optional_number(7)?;
+    Ok(Identity { fad, number, subtype })
+}
+
+fn read_requests(r: &mut BitReader) -> Result<Requests, Refusal> {
+    let machine = r.flag()?;
+    let acknowledge = r.flag()?;
+    let reply = r.flag()?;
+    Ok(Requests { machine, acknowledge, reply })
+}
+
+/// The security group is not carried, so its presence is a refusal.
+fn read_no_security(r: &mut BitReader) -> Result<(), Refusal> {
+    let presence = r.place;
+    if r.flag()? {
+        return Err((7, presence));
+    }
+    Ok(())
 }
 
 fn read_response(r: &mut BitReader) -> Result<Response, Refusal> {

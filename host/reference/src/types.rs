@@ -48,6 +48,8 @@ pub struct Header {
 #[derive(Clone, Debug, PartialEq, Eq)]
 pub struct Block {
     pub umf: u32,
+    /// Has no room in version 1, but a record can hold it there all the same,
+    /// because a record may be wrong in that way too (refusal 3).
     pub standard_version: Option<u32>,
     /// G4
     pub identity: Option<Identity>,

@@ -70,7 +70,7 @@ fn check_fields(h: &Header) -> Result<(), u32> {
 
     check_length(h.blocks.len(), h.blocks.len(), MAX_BLOCKS)?;
     for b in &h.blocks {
-        check_block(b)?;
+        check_block(b, h.version)?;
     }
     Ok(())
 }
@@ -150,9 +150,18 @@ pub fn check_stamp(s: &Stamp) -> Result<(), u32> {
     check_optional_width(s.extension, 12)
 }
 
-fn check_block(b: &Block) -> Result<(), u32> {
+/// Where the layout has no room for a standard version, one that is there would
+/// be lost in writing. So it is refused, whatever its number.
+fn check_standard_version(value: Option<u32>, version: u32) -> Result<(), u32> {
+    if value.is_some() && !has_standard_version(version) {
+        return Err(3);
+    }
+    check_optional_width(value, 4)
+}
+
+fn check_block(b: &Block, version: u32) -> Result<(), u32> {
     check_code(b.umf, legal_umf)?;
-    check_optional_width(b.standard_version, 4)?;
+    check_standard_version(b.standard_version, version)?;
     if let Some(identity) = &b.identity {
         check_width(identity.fad, 4)?;
         check_width(identity.number, 7)?;
@@ -172,19 +181,28 @@ fn check_block(b: &Block) -> Result<(), u32> {
         check_dtg(dtg)?;
     }
     // The three request bits are single bits and cannot be wrong.
-    if let Some(r) = &b.response {
-        check_stamp(&r.stamp)?;
-        check_code(r.code, legal_response_code)?;
-        check_optional_width(r.cantco, 3)?;
-        check_optional_width(r.cantpro, 6)?;
-        check_optional_text(&r.amplification, MAX_AMPLIFICATION)?;
+    if let Some(response) = &b.response {
+        check_response(response)?;
     }
     if let Some(list) = &b.references {
-        check_length(list.len(), list.len(), MAX_REFERENCES)?;
-        for reference in list {
-            check_address(&reference.address)?;
-            check_stamp(&reference.stamp)?;
-        }
+        check_references(list)?;
+    }
+    Ok(())
+}
+
+fn check_response(r: &Response) -> Result<(), u32> {
+    check_stamp(&r.stamp)?;
+    check_code(r.code, legal_response_code)?;
+    check_optional_width(r.cantco, 3)?;
+    check_optional_width(r.cantpro, 6)?;
+    check_optional_text(&r.amplification, MAX_AMPLIFICATION)
+}
+
+fn check_references(list: &[Reference]) -> Result<(), u32> {
+    check_length(list.len(), list.len(), MAX_REFERENCES)?;
+    for reference in list {
+        check_address(&reference.address)?;
+        check_stamp(&reference.stamp)?;
     }
     Ok(())
 }
@@ -219,7 +237,7 @@ fn header_octets_with_size(h: &Header, size: u32) -> Vec<u8> {
 
     for (i, b) in h.blocks.iter().enumerate() {
         w.flag(i + 1 < h.blocks.len());
-        put_block(&mut w, b);
+        put_block(&mut w, b, h.version);
     }
     w.octets()
 }
@@ -253,17 +271,12 @@ fn put_stamp(w: &mut BitWriter, s: &Stamp) {
     w.optional_number(s.extension, 12);
 }
 
-fn put_block(w: &mut BitWriter, b: &Block) {
+fn put_block(w: &mut BitWriter, b: &Block, version: u32) {
     w.number(b.umf, 4);
-    w.optional_number(b.standard_version, 4);
-
-    w.flag(b.identity.is_some());
-    if let Some(identity) = &b.identity {
-        w.number(identity.fad, 4);
-        w.number(identity.number, 7);
-        w.optional_number(identity.subtype, 7);
+    if has_standard_version(version) {
+        w.optional_number(b.standard_version, 4);
     }
-
+    put_identity(w, &b.identity);
     w.optional_text(&b.file_name, MAX_FILE_NAME);
     w.optional_number(b.message_size, 20);
     w.number(b.operation, 2);
@@ -276,37 +289,53 @@ fn put_block(w: &mut BitWriter, b: &Block) {
     if let Some(stamp) = &b.stamp {
         put_stamp(w, stamp);
     }
-
     w.flag(b.perishable.is_some());
     if let Some(dtg) = &b.perishable {
         put_dtg(w, dtg);
     }
+    put_requests(w, &b.requests);
+    put_response(w, &b.response);
+    put_references(w, &b.references);
+    // The security group is never sent.
+    w.flag(false);
+}
 
-    w.flag(b.requests.is_some());
-    if let Some(q) = &b.requests {
+fn put_identity(w: &mut BitWriter, identity: &Option<Identity>) {
+    w.flag(identity.is_some());
+    if let Some(identity) = identity {
+        w.number(identity.fad, 4);
+        w.number(identity.number, 7);
+        w.optional_number(identity.subtype, 7);
+    }
+}
+
+fn put_requests(w: &mut BitWriter, requests: &Option<Requests>) {
+    w.flag(requests.is_some());
+    if let Some(q) = requests {
         w.flag(q.machine);
         w.flag(q.acknowledge);
         w.flag(q.reply);
     }
+}
 
-    w.flag(b.response.is_some());
-    if let Some(r) = &b.response {
+fn put_response(w: &mut BitWriter, response: &Option<Response>) {
+    w.flag(response.is_some());
+    if let Some(r) = response {
         put_stamp(w, &r.stamp);
         w.number(r.code, 3);
         w.optional_number(r.cantco, 3);
         w.optional_number(r.cantpro, 6);
         w.optional_text(&r.amplification, MAX_AMPLIFICATION);
     }
+}
 
-    w.flag(b.references.is_some());
-    if let Some(list) = &b.references {
+fn put_references(w: &mut BitWriter, references: &Option<Vec<Reference>>) {
+    w.flag(references.is_some());
+    if let Some(list) = references {
         for (i, reference) in list.iter().enumerate() {
             w.flag(i + 1 < list.len());
             put_address(w, &reference.address);
             put_stamp(w, &reference.stamp);
         }
     }
-
-    // The security group is never sent.
-    w.flag(false);
 }

@@ -19,7 +19,7 @@ returns c = (
   c .before .before .see .ensures .0,
   c .before .before .see .ensures .1,
   c .before .before .see .ensures .2,
-  c .end-block .ensures ∙ ap (λ (k : ℕ). k + block .size (blockIn (c .before .before .before .before .args .b .now))) (c .before .end-flag .ensures),
+  c .end-block .ensures ∙ ap (λ (k : ℕ). k + block (c .before .before .before .before .args .version) .size (blockIn (c .before .before .before .before .args .b .now))) (c .before .end-flag .ensures),
 )
 
 pub look-spec : {M : Type 1} → statement M

@@ -14,7 +14,8 @@ pub fn check(h: &Header, count: usize) -> Result<usize, Refusal> {
 }
 
 fn octets(h: &Header, count: usize) -> Bits {
-    let bits = front(&h.front)? + 1 + 16 * usize::from(h.sized) + blocks(&h.blocks)?;
+    let front = front(&h.front)? + 1 + 16 * usize::from(h.sized);
+    let bits = front + blocks(h.front.version, &h.blocks)?;
     if !rules::rules_kept(h) {
         return Err(8);
     }
@@ -95,7 +96,7 @@ fn addressees(g: &OptionalAddresses, room: usize) -> Bits {
 }
 
 fn front(f: &Front) -> Bits {
-    if f.version != 2 {
+    if f.version != 1 && f.version != 2 {
         return Err(2);
     }
     let mut bits = 4 + 2;
@@ -134,17 +135,17 @@ pub fn stamp(s: &Stamp) -> Bits {
     Ok(dtg(&s.dtg)? + optional(&s.extension, 12)?)
 }
 
-fn blocks(g: &Blocks) -> Bits {
+fn blocks(version: u32, g: &Blocks) -> Bits {
     let count = g.count as usize;
     if count == 0 || count > BLOCKS {
         return Err(5);
     }
-    g.list[..count].iter().try_fold(0, |sum, b| Ok(sum + 1 + block(b)?))
+    g.list[..count].iter().try_fold(0, |sum, b| Ok(sum + 1 + block(version, b)?))
 }
 
 /// The one bit more is G10's.
-fn block(b: &Block) -> Bits {
-    let mut bits = format(&b.format)? + handling(&b.handling)? + times(&b.times)? + 3;
+fn block(version: u32, b: &Block) -> Bits {
+    let mut bits = format(version, &b.format)? + handling(&b.handling)? + times(&b.times)? + 3;
     if b.response.present {
         bits += response(&b.response.response)?;
     }
@@ -154,9 +155,18 @@ fn block(b: &Block) -> Bits {
     Ok(bits)
 }
 
-fn format(f: &Format) -> Bits {
+/// Version 1 has no standard version, and a record that has one is refused.
+fn standard_version(version: u32, x: &OptionalNumber) -> Bits {
+    match (version, x.present) {
+        (1, true) => Err(3),
+        (1, false) => Ok(0),
+        _ => optional(x, 4),
+    }
+}
+
+fn format(version: u32, f: &Format) -> Bits {
     within(f.umf, 0, 8)?;
-    let mut bits = 4 + optional(&f.version, 4)? + 1;
+    let mut bits = 4 + standard_version(version, &f.version)? + 1;
     if f.identity.present {
         let g4 = &f.identity.identity;
         bits += number(g4.fad, 4)? + number(g4.number, 7)? + optional(&g4.subtype, 7)?;

@@ -26,7 +26,7 @@ pub fn read_by(way: impl Way, datagram: &[u8], into: &mut Header) -> Result<usiz
     let mut size = OptionalNumber { present: false, value: 0 };
     bits.optional(16, &mut size)?;
     into.sized = size.present;
-    blocks(&mut bits, &mut into.blocks)?;
+    blocks(&mut bits, into.front.version, &mut into.blocks)?;
     bits.fill()?;
     let length = bits.place() / 8;
     if !rules::rules_kept(into) {
@@ -40,7 +40,7 @@ pub fn read_by(way: impl Way, datagram: &[u8], into: &mut Header) -> Result<usiz
 }
 
 fn front(bits: &mut BitsIn<impl Way>, into: &mut Front) -> Result<(), Refusal> {
-    into.version = bits.code(4, 2, 2, 2)?;
+    into.version = bits.code(4, 1, 2, 2)?;
     if bits.flag()? {
         let value = bits.code(2, 0, 1, 3)?;
         into.compression = OptionalNumber { present: true, value };
@@ -89,10 +89,14 @@ fn addresses(
     Ok(())
 }
 
-fn blocks(bits: &mut BitsIn<impl Way>, into: &mut Blocks) -> Result<(), Refusal> {
+fn blocks(
+    bits: &mut BitsIn<impl Way>,
+    version: u32,
+    into: &mut Blocks,
+) -> Result<(), Refusal> {
     for (i, entry) in into.list.iter_mut().enumerate() {
         let more = bits.recurs(BLOCKS - 1 - i)?;
-        block(bits, entry)?;
+        block(bits, version, entry)?;
         if !more {
             into.count = i as u32 + 1;
             break;
@@ -101,8 +105,8 @@ fn blocks(bits: &mut BitsIn<impl Way>, into: &mut Blocks) -> Result<(), Refusal>
     Ok(())
 }
 
-fn block(bits: &mut BitsIn<impl Way>, into: &mut Block) -> Result<(), Refusal> {
-    format(bits, &mut into.format)?;
+fn block(bits: &mut BitsIn<impl Way>, version: u32, into: &mut Block) -> Result<(), Refusal> {
+    format(bits, version, &mut into.format)?;
     handling(bits, &mut into.handling)?;
     times(bits, &mut into.times)?;
     if bits.flag()? {
@@ -116,9 +120,16 @@ fn block(bits: &mut BitsIn<impl Way>, into: &mut Block) -> Result<(), Refusal> {
     bits.zero(7)
 }
 
-fn format(bits: &mut BitsIn<impl Way>, into: &mut Format) -> Result<(), Refusal> {
+/// Version 1 has no standard version.
+fn format(
+    bits: &mut BitsIn<impl Way>,
+    version: u32,
+    into: &mut Format,
+) -> Result<(), Refusal> {
     into.umf = bits.code(4, 0, 8, 3)?;
-    bits.optional(4, &mut into.version)?;
+    if version != 1 {
+        bits.optional(4, &mut into.version)?;
+    }
     if bits.flag()? {
         into.identity.present = true;
         let identity = &mut into.identity.identity;

@@ -25,7 +25,7 @@ pub fn write_by(way: impl Way, h: &Header, count: usize, out: &mut [u8]) -> Resu
     if h.sized {
         bits.number(octets as u32, 16);
     }
-    blocks(&mut bits, &h.blocks);
+    blocks(&mut bits, h.front.version, &h.blocks);
     bits.finish();
     Ok(octets)
 }
@@ -59,17 +59,17 @@ fn addressees(bits: &mut BitsOut<impl Way>, g: &OptionalAddresses) {
     }
 }
 
-fn blocks(bits: &mut BitsOut<impl Way>, g: &Blocks) {
+fn blocks(bits: &mut BitsOut<impl Way>, version: u32, g: &Blocks) {
     let list = &g.list[..g.count as usize];
     for (i, entry) in list.iter().enumerate() {
         bits.flag(i + 1 < list.len());
-        block(bits, entry);
+        block(bits, version, entry);
     }
 }
 
 /// The last bit is G10's presence.
-fn block(bits: &mut BitsOut<impl Way>, b: &Block) {
-    format(bits, &b.format);
+fn block(bits: &mut BitsOut<impl Way>, version: u32, b: &Block) {
+    format(bits, version, &b.format);
     handling(bits, &b.handling);
     times(bits, &b.times);
     bits.flag(b.response.present);
@@ -83,9 +83,12 @@ fn block(bits: &mut BitsOut<impl Way>, b: &Block) {
     bits.flag(false);
 }
 
-fn format(bits: &mut BitsOut<impl Way>, f: &Format) {
+/// Version 1 has no standard version.
+fn format(bits: &mut BitsOut<impl Way>, version: u32, f: &Format) {
     bits.number(f.umf, 4);
-    bits.optional(&f.version, 4);
+    if version != 1 {
+        bits.optional(&f.version, 4);
+    }
     bits.flag(f.identity.present);
     if f.identity.present {
         let g4 = &f.identity.identity;

@@ -205,9 +205,11 @@ impl Bits {
         self.optional(&x.extension, 12);
     }
 
-    fn format(&mut self, x: &Format) {
+    fn format(&mut self, x: &Format, version: u32) {
         self.number(x.umf, 4);
-        self.optional(&x.version, 4);
+        if version != 1 {
+            self.optional(&x.version, 4);
+        }
         if self.flag(x.identity.present) {
             self.number(x.identity.identity.fad, 4);
             self.number(x.identity.identity.number, 7);
@@ -261,11 +263,11 @@ impl Bits {
         }
     }
 
-    fn blocks(&mut self, x: &Blocks) {
+    fn blocks(&mut self, x: &Blocks, version: u32) {
         let used = &x.list[..x.count as usize];
         for (i, block) in used.iter().enumerate() {
             self.flag(i + 1 < used.len());
-            self.format(&block.format);
+            self.format(&block.format, version);
             self.handling(&block.handling);
             self.times(&block.times);
             self.response(&block.response);
@@ -283,7 +285,7 @@ impl Bits {
         self.addresses(&x.front.recipients);
         self.addresses(&x.front.information);
         self.optional(&OptionalNumber { present: x.sized, value: size }, 16);
-        self.blocks(&x.blocks);
+        self.blocks(&x.blocks, x.front.version);
     }
 }
 

@@ -54,12 +54,36 @@ fn worked_b_and_c() {
 }
 
 #[test]
+fn the_board_does_not_ask_for_the_version() {
+    let b = read(&with_data(&B, &[0x01])).unwrap().0;
+    let c = read(&C).unwrap().0;
+    let b1 = read(&with_data(&B1, &[0x01])).unwrap().0;
+    let c1 = read(&C1).unwrap().0;
+    let settled = one_row(requests(true, false, false), vec![recipient(urn(3), 1, 0, 0)]);
+    for (posting, answering) in [(&b1, &c1), (&b1, &c), (&b, &c1)] {
+        let mut board = Board::new();
+        assert_eq!(receipt(&mut board, answering, 1, 0), 26);
+        assert_eq!(post(&mut board, posting, 1, 1), 0);
+        // One message, in whichever version it comes again.
+        assert_eq!(post(&mut board, &b, 1, 1), 22);
+        assert_eq!(post(&mut board, &b1, 1, 1), 22);
+        assert_eq!(receipt(&mut board, answering, 1, 0), 0);
+        assert_eq!(board, settled);
+        assert_eq!(receipt(&mut board, &c, 1, 0), 28);
+        assert_eq!(receipt(&mut board, &c1, 1, 0), 28);
+    }
+}
+
+#[test]
 fn refusals_of_a_posting() {
     let mut board = Board::new();
     // The record's own refusals, then 29, then what the board finds.
     let mut h = asking(true, false, false);
-    h.version = 1;
+    h.version = 3;
     assert_eq!(post(&mut board, &h, 0, 1), 2);
+    h.version = 1;
+    h.blocks[0].standard_version = Some(0);
+    assert_eq!(post(&mut board, &h, 0, 1), 3);
     let h = asking(true, false, false);
     assert_eq!(post(&mut board, &h, 0, 0), 10);
     assert_eq!(post(&mut board, &h, 0, u64::MAX), 12);
@@ -176,6 +200,11 @@ fn refusals_of_a_receipt() {
     let before = board.clone();
 
     let good = answer(urn(3), urn(207), stamp(), 1);
+    let mut h = old(&good);
+    h.blocks[0].standard_version = Some(0);
+    assert_eq!(receipt(&mut board, &h, 0, 1), 3);
+    h.version = 0;
+    assert_eq!(receipt(&mut board, &h, 0, 1), 2);
     assert_eq!(receipt(&mut board, &good, 0, 1), 10);
     assert_eq!(receipt(&mut board, &good, 0, 0), 29);
     assert_eq!(receipt(&mut board, &good, 2, 0), 29);

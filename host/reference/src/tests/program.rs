@@ -26,6 +26,22 @@ fn the_papers_output() {
 }
 
 #[test]
+fn both_versions_on_one_board() {
+    let b = hex(&with_data(&B, &[0x01]));
+    let c = hex(&C);
+    let b1 = hex(&with_data(&B1, &[0x01]));
+    let c1 = hex(&C1);
+    assert_eq!(run(&format!("{b1}\n")), OPEN);
+    assert_eq!(run(&format!("{b1}\n{c1}\n")), WHOLE);
+    assert_eq!(run(&format!("{b}\n{c1}\n")), WHOLE);
+    assert_eq!(run(&format!("{b1}\n{c}\n")), WHOLE);
+    assert_eq!(run(&format!("{b1}\n{b}\n{c}\n{c1}\n")), WHOLE);
+    // A version that cannot be read leaves no trace.
+    assert_eq!(run(&format!("{}\n", b.replacen("E2", "E0", 1))), "rows 0\n");
+    assert_eq!(run(&format!("{}\n", b.replacen("E2", "E3", 1))), "rows 0\n");
+}
+
+#[test]
 fn nothing_to_read() {
     assert_eq!(run(""), "rows 0\n");
     assert_eq!(run("\n"), "rows 0\n");

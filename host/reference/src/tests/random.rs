@@ -68,21 +68,26 @@ impl Dice {
         Stamp { dtg: self.dtg(), extension: self.maybe(4096) }
     }
 
-    /// A valid record and the octets of its user data.
-    fn record(&mut self) -> (Header, u64) {
+    fn addresses(&mut self, count: u32) -> Option<Vec<Address>> {
+        if count > 0 && self.coin() {
+            Some((0..count).map(|_| self.address()).collect())
+        } else {
+            None
+        }
+    }
+
+    /// A valid record of this version and the octets of its user data.
+    fn record(&mut self, version: u32) -> (Header, u64) {
         let mut h = plain_header();
+        h.version = version;
         if self.coin() {
             h.originator = Some(self.address());
         }
         let g2 = self.below(17);
-        if g2 > 0 && self.coin() {
-            h.recipients = Some((0..g2).map(|_| self.address()).collect());
-        }
+        h.recipients = self.addresses(g2);
         let taken = h.recipients.as_ref().map_or(0, |l| l.len() as u32);
         let g3 = self.below(17 - taken);
-        if g3 > 0 && self.coin() {
-            h.information = Some((0..g3).map(|_| self.address()).collect());
-        }
+        h.information = self.addresses(g3);
         let blocks = match self.below(3) {
             0 => 1,
             1 => 1 + self.below(3),
@@ -93,72 +98,93 @@ impl Dice {
         let mut count = 0;
         h.blocks = Vec::new();
         for _ in 0..blocks {
-            let mut b = plain_block();
-            b.umf = self.below(9);
-            b.standard_version = self.maybe(16);
-            if self.coin() && b.umf != 1 && b.umf != 4 {
-                b.identity = Some(Identity {
-                    fad: self.below(16),
-                    number: self.below(128),
-                    subtype: self.maybe(128),
-                });
-            }
-            b.file_name = self.maybe_text(64);
-            b.operation = self.below(4);
-            b.retransmit = self.below(2);
-            b.precedence = self.below(8);
-            b.classification = self.below(4);
-            b.marking = self.maybe_text(32);
-            if self.coin() {
-                b.stamp = Some(self.stamp());
-            }
-            let answers = self.coin() && h.compression.is_none() && b.umf != 4;
-            if answers {
-                let code = 1 + self.below(6);
-                b.response = Some(Response {
-                    stamp: self.stamp(),
-                    code,
-                    cantco: if code == 6 { self.maybe(8) } else { None },
-                    cantpro: if code == 2 { self.maybe(64) } else { None },
-                    amplification: self.maybe_text(50),
-                });
-            } else {
-                if self.coin() {
-                    b.perishable = Some(self.dtg());
-                }
-                if self.coin() && h.originator.is_some() {
-                    let ask = b.stamp.is_some();
-                    b.requests = Some(requests(
-                        ask && self.coin(),
-                        ask && self.coin(),
-                        ask && self.coin(),
-                    ));
-                }
-            }
-            let size = if answers { 0 } else { 1 + self.below(40) };
+            let mut b = self.block(&h);
+            let size = if b.response.is_some() { 0 } else { 1 + self.below(40) };
             count += u64::from(size);
             if blocks > 1 || self.coin() {
                 b.message_size = Some(size);
-            }
-            if self.coin() {
-                let n = 1 + self.below(4);
-                b.references = Some(
-                    (0..n)
-                        .map(|_| Reference { address: self.address(), stamp: self.stamp() })
-                        .collect(),
-                );
             }
             h.blocks.push(b);
         }
         (h, count)
     }
+
+    /// A block that can stand in this header; its size is not yet told.
+    fn block(&mut self, h: &Header) -> Block {
+        let mut b = plain_block();
+        b.umf = self.below(9);
+        if h.version == 2 {
+            b.standard_version = self.maybe(16);
+        }
+        if self.coin() && b.umf != 1 && b.umf != 4 {
+            b.identity = Some(Identity {
+                fad: self.below(16),
+                number: self.below(128),
+                subtype: self.maybe(128),
+            });
+        }
+        b.file_name = self.maybe_text(64);
+        b.operation = self.below(4);
+        b.retransmit = self.below(2);
+        b.precedence = self.below(8);
+        b.classification = self.below(4);
+        b.marking = self.maybe_text(32);
+        if self.coin() {
+            b.stamp = Some(self.stamp());
+        }
+        if self.coin() && h.compression.is_none() && b.umf != 4 {
+            b.response = Some(self.response());
+        } else {
+            self.original(&mut b, h.originator.is_some());
+        }
+        if self.coin() {
+            let n = 1 + self.below(4);
+            let mut list = Vec::new();
+            for _ in 0..n {
+                list.push(Reference { address: self.address(), stamp: self.stamp() });
+            }
+            b.references = Some(list);
+        }
+        b
+    }
+
+    fn response(&mut self) -> Response {
+        let code = 1 + self.below(6);
+        Response {
+            stamp: self.stamp(),
+            code,
+            cantco: if code == 6 { self.maybe(8) } else { None },
+            cantpro: if code == 2 { self.maybe(64) } else { None },
+            amplification: self.maybe_text(50),
+        }
+    }
+
+    /// The groups that only a block without an answer can have.
+    fn original(&mut self, b: &mut Block, has_originator: bool) {
+        if self.coin() {
+            b.perishable = Some(self.dtg());
+        }
+        if self.coin() && has_originator {
+            let ask = b.stamp.is_some();
+            b.requests = Some(requests(
+                ask && self.coin(),
+                ask && self.coin(),
+                ask && self.coin(),
+            ));
+        }
+    }
+}
+
+/// One record of each version in turn.
+fn version_of(turn: u32) -> u32 {
+    1 + turn % 2
 }
 
 #[test]
 fn written_records_are_read_back() {
     let mut dice = Dice(1);
-    for _ in 0..400 {
-        let (h, count) = dice.record();
+    for turn in 0..800 {
+        let (h, count) = dice.record(version_of(turn));
         let octets = check(&h, count).expect("the generator makes valid records");
         let mut d: Vec<u8> = (0..octets + count as usize).map(|_| dice.next() as u8).collect();
         let data = d[octets..].to_vec();
@@ -174,8 +200,8 @@ fn written_records_are_read_back() {
 #[test]
 fn a_cut_header_runs_out() {
     let mut dice = Dice(2);
-    for _ in 0..20 {
-        let (h, count) = dice.record();
+    for turn in 0..40 {
+        let (h, count) = dice.record(version_of(turn));
         let octets = check(&h, count).unwrap();
         let mut d = vec![0; octets];
         write(&h, count, &mut d).unwrap();
@@ -188,10 +214,10 @@ fn a_cut_header_runs_out() {
 #[test]
 fn what_is_read_is_written_back() {
     let mut dice = Dice(3);
-    let mut accepted = 0;
+    let mut accepted = [0u32; 3];
     let mut seen = [0u32; 13];
-    for _ in 0..1500 {
-        let (h, count) = dice.record();
+    for turn in 0..3000 {
+        let (h, count) = dice.record(version_of(turn));
         let octets = check(&h, count).unwrap();
         let mut d = vec![0xA5; octets + count as usize];
         write(&h, count, &mut d).unwrap();
@@ -202,7 +228,7 @@ fn what_is_read_is_written_back() {
         }
         match read(&d) {
             Ok((changed, length)) => {
-                accepted += 1;
+                accepted[changed.version as usize] += 1;
                 let rest = (d.len() - length) as u64;
                 let mut out = vec![0; length];
                 assert_eq!(write(&changed, rest, &mut out), Ok(length));
@@ -217,10 +243,67 @@ fn what_is_read_is_written_back() {
             }
         }
     }
-    assert!(accepted > 100, "{accepted}");
+    assert!(accepted[1] > 100 && accepted[2] > 100, "{accepted:?}");
     for number in [1, 2, 3, 4, 5, 6, 7, 8, 9, 10] {
         assert!(seen[number] > 0, "refusal {number} never came up: {seen:?}");
     }
+}
+
+#[test]
+fn a_record_in_the_other_version() {
+    let mut dice = Dice(5);
+    let mut seen = [0u32; 2];
+    for _ in 0..400 {
+        // Version 2 takes all that version 1 does, with one bit more a block.
+        let (mut h, count) = dice.record(1);
+        let short = check(&h, count).unwrap();
+        h.version = 2;
+        let long = check(&h, count).unwrap();
+        assert!(long >= short && long <= short + (h.blocks.len() + 7) / 8);
+        // Version 1 takes those without a standard version.
+        let (mut h, count) = dice.record(2);
+        let extra = h.blocks.iter().any(|b| b.standard_version.is_some());
+        h.version = 1;
+        match check(&h, count) {
+            Ok(_) => assert!(!extra),
+            Err(refusal) => assert!(extra && refusal == 3),
+        }
+        seen[extra as usize] += 1;
+        // And all of them once that is gone.
+        for b in &mut h.blocks {
+            b.standard_version = None;
+        }
+        assert!(check(&h, count).is_ok());
+    }
+    assert!(seen[0] > 20 && seen[1] > 20, "{seen:?}");
+}
+
+#[test]
+fn octets_under_the_other_version() {
+    let mut dice = Dice(6);
+    let mut accepted = [0u32; 3];
+    for turn in 0..4000 {
+        let version = version_of(turn);
+        let (h, count) = dice.record(version);
+        let octets = check(&h, count).unwrap();
+        let mut d = vec![0; octets + count as usize];
+        write(&h, count, &mut d).unwrap();
+        // The two numbers differ in their low two bits.
+        d[0] ^= 3;
+        // What can be read is of the other version and is written back; the
+        // number itself is never what it is refused for.
+        match read(&d) {
+            Ok((changed, length)) => {
+                assert_eq!(changed.version, 3 - version);
+                accepted[changed.version as usize] += 1;
+                let mut out = vec![0; length];
+                assert_eq!(write(&changed, (d.len() - length) as u64, &mut out), Ok(length));
+                assert_eq!(out, &d[..length]);
+            }
+            Err((number, _)) => assert_ne!(number, 2),
+        }
+    }
+    assert!(accepted[1] > 0 && accepted[2] > 0, "{accepted:?}");
 }
 
 #[test]
@@ -250,6 +333,7 @@ fn calls_keep_the_board_in_order_and_refusals_leave_it_alone() {
                 let to: Vec<Address> = (0..n).map(|_| some_address(&mut dice)).collect();
                 let asks = requests(dice.coin(), dice.coin(), dice.coin());
                 let mut h = message(from, to, s, asks);
+                h.version = 1 + dice.below(2);
                 if n == 0 {
                     h.recipients = None;
                 }
@@ -258,6 +342,7 @@ fn calls_keep_the_board_in_order_and_refusals_leave_it_alone() {
             4 | 5 => {
                 let to = some_address(&mut dice);
                 let mut h = answer(from, to, s, 1 + dice.below(6));
+                h.version = 1 + dice.below(2);
                 if dice.below(10) == 0 {
                     h.originator = None;
                 }

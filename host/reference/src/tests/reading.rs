@@ -24,11 +24,11 @@ fn worked_a() {
     assert_eq!(read(&secured), Err((7, 32)));
 
     assert_eq!(read(&[]), Err((1, 0)));
-    let mut old = datagram.clone();
-    old[0] = 0x01;
-    assert_eq!(read(&old), Err((2, 0)));
-    assert_eq!(read(&[0x01]), Err((2, 0)));
-    assert_eq!(user_data(&old), &[] as &[u8]);
+    let mut other = datagram.clone();
+    other[0] = 0x03;
+    assert_eq!(read(&other), Err((2, 0)));
+    assert_eq!(read(&[0x03]), Err((2, 0)));
+    assert_eq!(user_data(&other), &[] as &[u8]);
 }
 
 #[test]
@@ -61,8 +61,8 @@ fn each_fill_bit() {
 
 #[test]
 fn a_header_without_fill() {
-    // The smallest header is 33 bits; these parts bring it to 96, so that the
-    // last field ends with the twelfth octet.
+    // The smallest header of version 2 is 33 bits; these parts bring it to 96,
+    // so that the last field ends with the twelfth octet.
     let mut m = Hand::new();
     m.n(2, 4).n(0, 1);
     m.n(1, 1).n(0, 1).n(1, 1).chars(b"ABC").n(127, 7); // G1: 30 more
@@ -191,8 +191,9 @@ fn codes_and_their_places() {
         let mut m = Hand::new();
         m.n(value, 4).n(0, 4).n(0, 1).last_block();
         let got = read(&m.datagram());
-        if value == 2 {
-            assert!(got.is_ok());
+        if value == 1 || value == 2 {
+            // In version 1 the last of these bits begins the data.
+            assert_eq!(got.unwrap().0.version, value);
         } else {
             assert_eq!(got, Err((2, 0)));
         }

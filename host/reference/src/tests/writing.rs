@@ -19,8 +19,11 @@ fn the_worked_headers_are_written_as_they_stand() {
     let c = answer(urn(3), urn(207), stamp(), 1);
     for (h, count, octets) in [
         (plain_header(), 1, &A[..]),
-        (b, 1, &B[..]),
-        (c, 0, &C[..]),
+        (b.clone(), 1, &B[..]),
+        (c.clone(), 0, &C[..]),
+        (old(&plain_header()), 1, &A1[..]),
+        (old(&b), 1, &B1[..]),
+        (old(&c), 0, &C1[..]),
     ] {
         assert_eq!(check(&h, count), Ok(octets.len()));
         let mut out = vec![0xEE; octets.len() + 3];
@@ -53,8 +56,14 @@ fn too_short_an_output_comes_last_and_changes_nothing() {
 
 #[test]
 fn version_and_codes() {
-    assert_eq!(refused(|h| h.version = 1), 2);
+    assert!(accepted(|h| h.version = 1));
+    assert_eq!(refused(|h| h.version = 0), 2);
+    assert_eq!(refused(|h| h.version = 3), 2);
+    assert_eq!(refused(|h| h.version = 15), 2);
+    // Too wide, though the low four bits would be 1 and 2.
+    assert_eq!(refused(|h| h.version = 17), 2);
     assert_eq!(refused(|h| h.version = 18), 2);
+    assert_eq!(refused(|h| h.version = u32::MAX), 2);
     assert!(accepted(|h| h.compression = Some(0)));
     assert!(accepted(|h| h.compression = Some(1)));
     assert_eq!(refused(|h| h.compression = Some(2)), 3);

@@ -25,7 +25,7 @@ end-optional-response-requires c κs = search needs
 
 end-optional-references-requires : tie.Need-end-optional-references-requires
 unfolding block viewed _thenBy_ _closedBy_ flag tested blockIn
-end-optional-references-requires c κs = (search needs, block-references (blockIn (c .before .before .before .before .before .before .before .before .before .before .args .x .now)) (c .before .before .before .before .before .before .before .before .before .before .pre .1), search needs)
+end-optional-references-requires c κs = (search needs, block-references _ (blockIn (c .before .before .before .before .before .before .before .before .before .before .args .x .now)) (c .before .before .before .before .before .before .before .before .before .before .pre .1), search needs)
 
 end-flag-requires : tie.Need-end-flag-requires
 unfolding block viewed _thenBy_ _closedBy_ flag tested blockIn

@@ -10,9 +10,9 @@ end-number-requires : tie.Need-end-number-requires
 unfolding format _thenBy_ viewed number formatIn
 end-number-requires c κs = search needs
 
-end-optional-requires : tie.Need-end-optional-requires
+end-standard-version-requires : tie.Need-end-standard-version-requires
 unfolding format _thenBy_ viewed number formatIn
-end-optional-requires c κs = search needs
+end-standard-version-requires c κs = search needs
 
 end-optional-identity-requires : tie.Need-end-optional-identity-requires
 unfolding format _thenBy_ viewed number formatIn
@@ -27,4 +27,4 @@ unfolding format _thenBy_ viewed number formatIn
 returns c = search needs
 
 pub end-format-spec : {M : Type 1} → statement M
-end-format-spec = tie.close (tie.spec end-number-requires (λ c. search needs) (λ c. search needs) (λ c. search needs) end-optional-requires (λ c. search needs) (λ c. search needs) (λ c. search needs) end-optional-identity-requires (λ c. search needs) (λ c. search needs) (λ c. search needs) end-optional-text-requires returns)
+end-format-spec = tie.close (tie.spec end-number-requires (λ c. search needs) (λ c. search needs) (λ c. search needs) end-standard-version-requires (λ c. search needs) (λ c. search needs) (λ c. search needs) end-optional-identity-requires (λ c. search needs) (λ c. search needs) (λ c. search needs) end-optional-text-requires returns)

@@ -14,7 +14,7 @@ write-message-requires c κs = search needs
 
 write-tail-requires : tie.Need-write-tail-requires
 unfolding block _thenBy_ viewed blockIn
-write-tail-requires c κs = (search needs, block-references (blockIn (c .before .before .before .before .before .before .before .args .x .now)) (c .before .before .before .before .before .before .before .pre .1), c .before .before .before .before .before .before .before .pre .2)
+write-tail-requires c κs = (search needs, block-references _ (blockIn (c .before .before .before .before .before .before .before .args .x .now)) (c .before .before .before .before .before .before .before .pre .1), c .before .before .before .before .before .before .before .pre .2)
 
 returns : tie.Need-returns
 unfolding block blockIn

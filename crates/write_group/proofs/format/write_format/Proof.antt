@@ -11,9 +11,9 @@ write-word-requires : tie.Need-write-word-requires
 unfolding format _thenBy_ viewed number formatIn
 write-word-requires c κs = search needs
 
-write-optional-requires : tie.Need-write-optional-requires
+write-standard-version-requires : tie.Need-write-standard-version-requires
 unfolding format _thenBy_ viewed number formatIn
-write-optional-requires c κs = search needs
+write-standard-version-requires c κs = search needs
 
 write-optional-identity-requires : tie.Need-write-optional-identity-requires
 unfolding format _thenBy_ viewed number formatIn
@@ -28,4 +28,4 @@ unfolding format formatIn
 returns c = search writing depth 12
 
 pub write-format-spec : {M : Type 1} → statement M
-write-format-spec = tie.close (tie.spec (λ c. search needs) (λ c. search needs) (λ c. search needs) write-word-requires (λ c. search needs) (λ c. search needs) (λ c. search needs) write-optional-requires (λ c. search needs) (λ c. search needs) (λ c. search needs) write-optional-identity-requires (λ c. search needs) (λ c. search needs) (λ c. search needs) write-optional-text-requires (λ c. search needs) returns)
+write-format-spec = tie.close (tie.spec (λ c. search needs) (λ c. search needs) (λ c. search needs) write-word-requires (λ c. search needs) (λ c. search needs) (λ c. search needs) write-standard-version-requires (λ c. search needs) (λ c. search needs) (λ c. search needs) write-optional-identity-requires (λ c. search needs) (λ c. search needs) (λ c. search needs) write-optional-text-requires (λ c. search needs) returns)

@@ -18,13 +18,13 @@ write-size-requires : tie.Need-write-size-requires
 unfolding wire viewed _thenBy_ headerIn
 write-size-requires c κs = search needs
 
-write-blocks-requires : tie.Need-write-blocks-requires
+write-messages-requires : tie.Need-write-messages-requires
 unfolding wire viewed _thenBy_ headerIn
-write-blocks-requires c κs = ((search needs, omega (arith, c .before .before .before .before .before .before .before .before .before .before .before .before .before .pre .0 .1, c .before .before .before .before .before .before .before .before .write-front .ensures .next, c .before .before .before .before .write-size .ensures .next)), wire-parts (wireOf (headerIn (c .before .before .before .before .before .before .before .before .before .before .before .before .before .args .h .now)) (c .before .before .before .before .before .before .before .before .before .before .before .before .before .args .size)) (c .before .before .before .before .before .before .before .before .before .before .before .before .before .pre .1) .1, search needs)
+write-messages-requires c κs = ((search needs, omega (arith, c .before .before .before .before .before .before .before .before .before .before .before .before .pre .0 .1, c .before .before .before .before .before .before .before .write-front .ensures .next, c .before .before .before .write-size .ensures .next)), wire-parts (wireOf (headerIn (c .before .before .before .before .before .before .before .before .before .before .before .before .args .h .now)) (c .before .before .before .before .before .before .before .before .before .before .before .before .args .size)) (c .before .before .before .before .before .before .before .before .before .before .before .before .pre .1) .1, search needs)
 
 returns : tie.Need-returns
 unfolding wire headerIn
 returns c = search writing depth 12
 
 pub write-fields-spec : {M : Type 1} → statement M
-write-fields-spec = tie.close (tie.spec (λ c. search needs) (λ c. search needs) (λ c. search needs) write-front-requires write-size-requires (λ c. search needs) (λ c. search needs) (λ c. search needs) write-blocks-requires (λ c. search needs) returns)
+write-fields-spec = tie.close (tie.spec (λ c. search needs) (λ c. search needs) (λ c. search needs) write-front-requires write-size-requires write-messages-requires (λ c. search needs) returns)
