@@ -25,7 +25,8 @@ use record_octets::in_text;
 
 // The refusal's number and place, number 0 where the datagram is accepted; the octets of the header and
 // of the user data; the length of the originator's name, and the counts of the lists, the references those
-// of the first block; and its standard version, 16 where it has none. Of a refused datagram only the first two mean anything.
+// of the first block; and its standard version, 16 where it has none. Of a refused datagram only the first
+// two mean anything.
 pub struct Summary {
     pub number: u64,
     pub place: u64,

@@ -45,7 +45,8 @@ fn read_head(s: &[u8], at: BitPlace, version: u32, x: &mut [u8]) -> Step
     read_times(s, at, &mut x[in_block::TIMES..in_block::RESPONSE])
 }
 
-// A message block of a header of that version, behind its recurrence bit. The presence bit of G10 has to be 0 and has no cell.
+// A message block of a header of that version, behind its recurrence bit. The presence bit of G10 has to be 0 and has
+// no cell.
 pub fn read_block(s: &[u8], at: BitPlace, version: u32, x: &mut [u8]) -> Step
     requires { ⌜ (length (now s) ≤ datagramLimit) × (now x ≡ zeros sizeOfBlock) × (length (now x) ≡ sizeOfBlock) ⌝ }
     ensures { λ r. ⌜ Into (block version) blockOctets TypedBlock (bitsOf (now (s .entry))) (at .0) r (now (x .exit)) ⌝ }

@@ -82,8 +82,8 @@ fn complete(f: Found) -> Survey
     }
 }
 
-// The entries of a list of 1 to 16 blocks of a record of that version, in a setting, with so many octets of user data, from a place on that leaves
-// room for the longest, 16 times 3,316 bits with their recurrence bits.
+// The entries of a list of 1 to 16 blocks of a record of that version, in a setting, with so many octets of user data,
+// from a place on that leaves room for the longest, 16 times 3,316 bits with their recurrence bits.
 fn survey_entries(
     version: u32,
     x: Setting,
