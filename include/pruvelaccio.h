@@ -3,8 +3,8 @@
  * the table of messages that still owe answers. Link libgateway.a (`rt staticlib gateway`), on x86-64 with
  * the System V calling convention.
  *
- * Every call takes any input. Its answer has number 0, done, or the number of a refusal with its bit place.
- * A refusal stores nothing through any pointer.
+ * Every call takes any input. Its answer has number 0, done, or the number of a refusal with its bit place
+ * and its message block. A refusal stores nothing through any pointer.
  *
  * Everything is lent: the library reads and changes a record, a table and a key where they lie. Any octets at
  * all are some record, some table and some key: a flag is set unless its octet is 0, a number is 32 bits with
@@ -295,17 +295,35 @@ PRUVELACCIO_ASSERT(sizeof(bool) == 1 && sizeof(size_t) == 8, "a bool is one octe
  * use.
  */
 
-/* Number 0: done. Otherwise a refusal; its place is a bit place, and 0 for all refusals but a reading's. */
+/*
+ * Number 0: done, with 0 in block and place. Otherwise a refusal. Its block is the message block, counted from
+ * 1, that breaks a rule (41 to 49) or has a wrong body (53, 54), and 0 where no block is to blame. Its place is
+ * a bit place, and 0 for all refusals but a reading's.
+ */
 typedef struct pruvelaccio_answer {
     uint32_t number;
+    uint32_t block;
     size_t place;
 } pruvelaccio_answer;
 
+/* The same with a length, which is 0 beside a refusal. */
 typedef struct pruvelaccio_size_answer {
     uint32_t number;
+    uint32_t block;
     size_t place;
     size_t length;
 } pruvelaccio_size_answer;
+
+/* The answers come back from the library as these octets. */
+PRUVELACCIO_ASSERT(sizeof(pruvelaccio_answer) == 16, "octets of answer");
+PRUVELACCIO_ASSERT(offsetof(pruvelaccio_answer, number) == 0, "place of answer.number");
+PRUVELACCIO_ASSERT(offsetof(pruvelaccio_answer, block) == 4, "place of answer.block");
+PRUVELACCIO_ASSERT(offsetof(pruvelaccio_answer, place) == 8, "place of answer.place");
+PRUVELACCIO_ASSERT(sizeof(pruvelaccio_size_answer) == 24, "octets of size_answer");
+PRUVELACCIO_ASSERT(offsetof(pruvelaccio_size_answer, number) == 0, "place of size_answer.number");
+PRUVELACCIO_ASSERT(offsetof(pruvelaccio_size_answer, block) == 4, "place of size_answer.block");
+PRUVELACCIO_ASSERT(offsetof(pruvelaccio_size_answer, place) == 8, "place of size_answer.place");
+PRUVELACCIO_ASSERT(offsetof(pruvelaccio_size_answer, length) == 16, "place of size_answer.length");
 
 pruvelaccio_size_answer pruvelaccio_read_octets(const uint8_t *datagram, size_t length, void *header);
 size_t pruvelaccio_data_start(const uint8_t *datagram, size_t length);
@@ -322,7 +340,28 @@ pruvelaccio_size_answer pruvelaccio_list_row_octets(const void *table, uint32_t 
  * The calls.
  */
 
-/* What an answer's number means, in words. */
+/* What a broken rule or a wrong size means, in words. */
+static inline const char *pruvelaccio_rule_meaning(uint32_t number)
+{
+    switch (number) {
+    case 41: return "rule (a): requests (G7) without an originator (G1)";
+    case 42: return "rule (b): a response (G8) beside a perishability time (G6) or requests (G7)";
+    case 43: return "rule (c): a message identification (G4) in UMF 1";
+    case 44: return "rule (d): a message identification (G4) in UMF 4";
+    case 45: return "rule (e): a response (G8) in a compressed message";
+    case 46: return "rule (f): of several blocks one, or the header, has no size";
+    case 47: return "rule (g): a CANTCO reason beside another R/C than 6";
+    case 48: return "rule (h): a CANTPRO reason beside another R/C than 2";
+    case 49: return "rule (i): a request is set, and there is no originator's time (G5)";
+    case 51: return "the header size is not the header's octets";
+    case 52: return "the message sizes do not sum to the data octets";
+    case 53: return "a block has no data octets and needs some, or a response (G8) in UMF 4";
+    case 54: return "a block has data octets and may have none";
+    default: return "unknown";
+    }
+}
+
+/* What an answer's number means, in words; for 41 and above those of a rule or a size. */
 static inline const char *pruvelaccio_meaning(uint32_t number)
 {
     switch (number) {
@@ -334,9 +373,7 @@ static inline const char *pruvelaccio_meaning(uint32_t number)
     case 5: return "a list of addressees, blocks or references is longer than it may be, or empty";
     case 6: return "an address has both forms or neither";
     case 7: return "the presence bit of G10 is 1";
-    case 8: return "one of the rules (a) to (i) is broken";
     case 9: return "a fill bit is 1";
-    case 10: return "a size is wrong";
     case 11: return "the output has too little room";
     case 12: return "header and data together are longer than 65,507 octets";
     case 20: return "a posting asks for nothing";
@@ -350,7 +387,7 @@ static inline const char *pruvelaccio_meaning(uint32_t number)
     case 28: return "nothing is open there that the code answers";
     case 29: return "the record has no such block";
     case 30: return "the table is not well formed";
-    default: return "unknown";
+    default: return pruvelaccio_rule_meaning(number);
     }
 }
 
@@ -364,7 +401,7 @@ static inline const uint8_t *pruvelaccio_lent(const uint8_t *octets)
 /* The answer of a call that gives a size; the size is stored where the call was done. */
 static inline pruvelaccio_answer pruvelaccio_take_size(pruvelaccio_size_answer got, size_t *size)
 {
-    pruvelaccio_answer answer = {got.number, got.place};
+    pruvelaccio_answer answer = {got.number, got.block, got.place};
     if (got.number == 0 && size != NULL) {
         *size = got.length;
     }

@@ -59,8 +59,8 @@ static void compose(pruvelaccio_header *header)
 static bool done(const char *call, pruvelaccio_answer answer)
 {
     if (answer.number != 0) {
-        fprintf(stderr, "%s: refusal %u: %s\n", call, (unsigned)answer.number,
-                pruvelaccio_meaning(answer.number));
+        fprintf(stderr, "%s: refusal %u, block %u: %s\n", call, (unsigned)answer.number,
+                (unsigned)answer.block, pruvelaccio_meaning(answer.number));
     }
     return answer.number == 0;
 }

@@ -19,8 +19,8 @@ static const uint8_t answer_to_it[] = {0xE2, 0x01, 0x00, 0x00, 0x7D, 0x06, 0x00,
 static bool done(const char *call, pruvelaccio_answer answer)
 {
     if (answer.number != 0) {
-        fprintf(stderr, "%s: refusal %u at place %zu: %s\n", call, (unsigned)answer.number, answer.place,
-                pruvelaccio_meaning(answer.number));
+        fprintf(stderr, "%s: refusal %u at place %zu, block %u: %s\n", call, (unsigned)answer.number,
+                answer.place, (unsigned)answer.block, pruvelaccio_meaning(answer.number));
     }
     return answer.number == 0;
 }

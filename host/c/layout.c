@@ -172,9 +172,11 @@ static void answers(void)
 {
     SIZE(answer);
     FIELD(answer, number);
+    FIELD(answer, block);
     FIELD(answer, place);
     SIZE(size_answer);
     FIELD(size_answer, number);
+    FIELD(size_answer, block);
     FIELD(size_answer, place);
     FIELD(size_answer, length);
 }

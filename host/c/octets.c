@@ -44,6 +44,17 @@ static unsigned sum(const void *octets, size_t size)
     return total;
 }
 
+/* Every cell of an answer, likewise. */
+static unsigned told(pruvelaccio_answer answer)
+{
+    return answer.number + answer.block + (unsigned)answer.place;
+}
+
+static unsigned told_size(pruvelaccio_size_answer answer)
+{
+    return answer.number + answer.block + (unsigned)(answer.place + answer.length);
+}
+
 static void damage(unsigned char *octets, size_t size)
 {
     for (uint32_t n = 1 + any(8); n > 0; n--) {
@@ -106,11 +117,11 @@ static unsigned calls(const pruvelaccio_header *record, pruvelaccio_table *table
     size_t room = any(64), length = 0;
     uint8_t *out = block(room);
     memset(out, 0x5A, room);
-    unsigned answers = pruvelaccio_check(record, any(3), &length).number;
-    answers += pruvelaccio_write(record, any(3), out, room, &length).number;
+    unsigned answers = told(pruvelaccio_check(record, any(3), &length));
+    answers += told(pruvelaccio_write(record, any(3), out, room, &length));
     answers += sum(out, room);
-    answers += pruvelaccio_post(table, record, 1 + any(2), any(3)).number;
-    answers += pruvelaccio_receipt(table, record, 1, 0).number;
+    answers += told(pruvelaccio_post(table, record, 1 + any(2), any(3)));
+    answers += told(pruvelaccio_receipt(table, record, 1, 0));
     free(out);
     return answers;
 }
@@ -125,7 +136,7 @@ static unsigned read_damaged(void)
     }
     pruvelaccio_header *record = block(sizeof(*record));
     pruvelaccio_answer answer = pruvelaccio_read(datagram, size, record, &length);
-    unsigned answers = answer.number;
+    unsigned answers = told(answer);
     if (answer.number == 0) {
         answers += sum(record, sizeof(*record));
     }
@@ -146,11 +157,11 @@ static unsigned calls_on_a_table(void)
     fill_table(table, record);
     fill_key(key, table);
     memset(out, 0x5A, room);
-    unsigned answers = pruvelaccio_list_row_octets(table, any(3), out, room).number;
+    unsigned answers = told_size(pruvelaccio_list_row_octets(table, any(3), out, room));
     answers += sum(out, room);
-    answers += pruvelaccio_post_octets(table, record, 1, 1).number;
-    answers += pruvelaccio_receipt_octets(table, record, 1, 0).number;
-    answers += pruvelaccio_release_octets(table, key).number;
+    answers += told(pruvelaccio_post_octets(table, record, 1, 1));
+    answers += told(pruvelaccio_receipt_octets(table, record, 1, 0));
+    answers += told(pruvelaccio_release_octets(table, key));
     answers += sum(table, sizeof(pruvelaccio_table)) + sum(key, sizeof(pruvelaccio_key));
     free(out);
     free(record);

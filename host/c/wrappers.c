@@ -140,19 +140,31 @@ static const call receipt_call = {"receipt", make_receipt};
 static const call release_call = {"release", make_release};
 static const call list_row_call = {"list_row", make_list_row};
 
-/* The call is refused with this number and place, and nothing is stored to any object. */
+static bool same_answer(pruvelaccio_answer a, pruvelaccio_answer b)
+{
+    return a.number == b.number && a.block == b.block && a.place == b.place;
+}
+
+static bool is_done(pruvelaccio_answer answer)
+{
+    const pruvelaccio_answer expected = {0, 0, 0};
+    return same_answer(answer, expected);
+}
+
+/* The call is refused with this number, block and place, and nothing is stored to any object. */
 static void refused(call made, const char *what, uint32_t number, size_t count, pruvelaccio_answer expected)
 {
     refusing = what;
     protect(PROT_READ);
     const pruvelaccio_answer answer = made.make(number, count);
     protect(PROT_READ | PROT_WRITE);
-    expect(made.name, what, answer.number == expected.number && answer.place == expected.place);
+    expect(made.name, what, same_answer(answer, expected));
 }
 
+/* The same with block 0 and place 0. */
 static void refused_at_0(call made, const char *what, uint32_t number, size_t count, uint32_t refusal)
 {
-    const pruvelaccio_answer expected = {refusal, 0};
+    const pruvelaccio_answer expected = {refusal, 0, 0};
     refused(made, what, number, count, expected);
 }
 
@@ -161,7 +173,7 @@ static void done(call made, const char *what, uint32_t number, size_t count)
 {
     memcpy(&before, &now, sizeof(now));
     const pruvelaccio_answer answer = made.make(number, count);
-    expect(made.name, what, answer.number == 0 && answer.place == 0);
+    expect(made.name, what, is_done(answer));
 }
 
 static void nothing_else_changed(call made, const char *what)
@@ -192,23 +204,32 @@ static void set_up_receipt(void)
 
 typedef struct datagram_case {
     const char *what;
-    uint8_t octets[6];
+    uint8_t octets[13];
     size_t length;
-    pruvelaccio_answer expected;
+    pruvelaccio_answer expected; /* number, block, place */
 } datagram_case;
 
+/*
+ * The last ones have sizes. Bit 8 is the header size's indicator; where it is 1, the size has bits 9 to 24, and the
+ * first block begins at bit 25. The message size has its indicator and 20 bits: bits 17 to 37, or 33 to 53 behind a
+ * header size. A second block behind those begins at bit 69, with its format at 70 and its size's indicator at 77.
+ */
 static const datagram_case datagram_cases[] = {
-    {"no octets", {0}, 0, {1, 0}},
-    {"version 3", {0x03}, 1, {2, 0}},
-    {"version 1 cut behind an octet", {0x01}, 1, {1, 8}},
-    {"version 1, G10 present", {0x01, 0x08, 0x00, 0x80, 0x01}, 5, {7, 31}},
-    {"compression 2", {0x52}, 1, {3, 5}},
-    {"a name that is a marker", {0xA2, 0x7F}, 2, {4, 8}},
-    {"neither form of an address", {0x22}, 1, {6, 7}},
-    {"G10 present", {0x02, 0x08, 0x00, 0x00, 0x01, 0x01}, 6, {7, 32}},
-    {"requests without an originator", {0x02, 0x08, 0x00, 0x20, 0x00, 0x01}, 6, {8, 0}},
-    {"a fill bit", {0x02, 0x08, 0x00, 0x00, 0x02, 0x01}, 6, {9, 33}},
-    {"no data", {0x02, 0x08, 0x00, 0x00, 0x00}, 5, {10, 0}},
+    {"no octets", {0}, 0, {1, 0, 0}},
+    {"version 3", {0x03}, 1, {2, 0, 0}},
+    {"version 1 cut behind an octet", {0x01}, 1, {1, 0, 8}},
+    {"version 1, G10 present", {0x01, 0x08, 0x00, 0x80, 0x01}, 5, {7, 0, 31}},
+    {"compression 2", {0x52}, 1, {3, 0, 5}},
+    {"a name that is a marker", {0xA2, 0x7F}, 2, {4, 0, 8}},
+    {"neither form of an address", {0x22}, 1, {6, 0, 7}},
+    {"G10 present", {0x02, 0x08, 0x00, 0x00, 0x01, 0x01}, 6, {7, 0, 32}},
+    {"requests without an originator", {0x02, 0x08, 0x00, 0x20, 0x00, 0x01}, 6, {41, 1, 0}},
+    {"a fill bit", {0x02, 0x08, 0x00, 0x00, 0x02, 0x01}, 6, {9, 0, 33}},
+    {"no data", {0x02, 0x08, 0x00, 0x00, 0x00}, 5, {53, 1, 0}},
+    {"header size 6 of 7", {0x02, 0x0D, 0x00, 0x08, 0x00, 0x00, 0x00, 0x01}, 8, {51, 0, 0}},
+    {"header size 6 of 7, no data", {0x02, 0x0D, 0x00, 0x08}, 7, {51, 0, 0}},
+    {"message size 2, an octet of data", {0x02, 0x08, 0x0A, 0x00, 0x00, 0x00, 0x00, 0x01}, 8, {52, 0, 0}},
+    {"a second block without a size", {0x02, 0x19, 0x00, 0x0A, 0x06, 0x00, 0x00, 0x00, 0x80}, 13, {46, 2, 0}},
 };
 
 static void reading_refused(void)
@@ -223,10 +244,19 @@ static void reading_refused(void)
     refused_at_0(read_call, "a datagram too long", 0, sizeof(now.datagram), 12);
 }
 
+/* C has G8 and no message size: an octet behind it would be its body. */
+static void reading_needless(void)
+{
+    const pruvelaccio_answer expected = {54, 1, 0};
+    memset(&now, PATTERN, sizeof(now));
+    memcpy(now.datagram, receipt, sizeof(receipt));
+    refused(read_call, "data behind a receipt", 0, sizeof(receipt) + 1, expected);
+}
+
 /* Sixteen recipients are written; then the recurrence bit of the last asks for one more, at bit 438. */
 static void reading_too_many(void)
 {
-    const pruvelaccio_answer expected = {5, 438};
+    const pruvelaccio_answer expected = {5, 0, 438};
     uint8_t octets[PRUVELACCIO_HEADER_OCTETS];
     size_t written = 0;
     set_up();
@@ -384,29 +414,92 @@ static void spoil_all_but_version(pruvelaccio_header *header)
     header->front.version = 2;
 }
 
+/* Two blocks of an octet each; the second is the first again. */
+static void doubled(pruvelaccio_header *header)
+{
+    pruvelaccio_block *first = &header->blocks.list[0];
+    header->sized = true;
+    first->handling.size.present = true;
+    first->handling.size.value = 1;
+    memcpy(first + 1, first, sizeof(*first));
+    header->blocks.count = 2;
+}
+
+/* The same without the header size; the first block has none either. */
+static void spoil_header_size(pruvelaccio_header *header)
+{
+    doubled(header);
+    header->sized = false;
+    header->blocks.list[0].handling.size.present = false;
+}
+
+static void spoil_second_size(pruvelaccio_header *header)
+{
+    doubled(header);
+    header->blocks.list[1].handling.size.present = false;
+}
+
+static void spoil_second_identity(pruvelaccio_header *header)
+{
+    doubled(header);
+    header->blocks.list[1].format.umf = 1;
+    header->blocks.list[1].format.identity.present = true;
+}
+
+/* And the first block asks without saying when it was made. */
+static void spoil_both(pruvelaccio_header *header)
+{
+    spoil_second_identity(header);
+    header->blocks.list[0].times.origin.present = false;
+}
+
+/* The second block is an answer, with an octet all the same. */
+static void spoil_answer(pruvelaccio_header *header)
+{
+    doubled(header);
+    pruvelaccio_block *second = &header->blocks.list[1];
+    second->times.requests.present = false;
+    second->response.present = true;
+    second->response.response.stamp = second->times.origin.stamp;
+    second->response.response.compliance.code = 1;
+}
+
+static void spoil_forwarded_answer(pruvelaccio_header *header)
+{
+    spoil_answer(header);
+    header->blocks.list[1].format.umf = 4;
+}
+
 typedef struct record_case {
     const char *what;
     void (*spoil)(pruvelaccio_header *header);
     size_t count;
-    uint32_t refusal;
+    pruvelaccio_answer expected; /* number, block, place */
 } record_case;
 
 static const record_case record_cases[] = {
-    {"version 3", spoil_version, MESSAGE_DATA, 2},
-    {"version 1 with a standard version", spoil_standard, MESSAGE_DATA, 3},
-    {"every octet a pattern", spoil_all, MESSAGE_DATA, 2},
-    {"every octet a pattern but the version's", spoil_all_but_version, MESSAGE_DATA, 3},
-    {"UMF 9", spoil_format, MESSAGE_DATA, 3},
-    {"a name of no characters", spoil_name, MESSAGE_DATA, 4},
-    {"4,294,967,295 blocks", spoil_count, MESSAGE_DATA, 5},
-    {"2,779,096,485 recipients", spoil_recipients, MESSAGE_DATA, 5},
-    {"4,294,967,295 information addressees", spoil_information, MESSAGE_DATA, 5},
-    {"2,779,096,485 references", spoil_references, MESSAGE_DATA, 5},
-    {"both forms of an address", spoil_address, MESSAGE_DATA, 6},
-    {"requests without an originator", spoil_originator, MESSAGE_DATA, 8},
-    {"no data", as_it_is, 0, 10},
-    {"too much data", as_it_is, PRUVELACCIO_DATAGRAM_OCTETS, 12},
-    {"the most data that can be said", as_it_is, SIZE_MAX, 12},
+    {"version 3", spoil_version, MESSAGE_DATA, {2, 0, 0}},
+    {"version 1 with a standard version", spoil_standard, MESSAGE_DATA, {3, 0, 0}},
+    {"every octet a pattern", spoil_all, MESSAGE_DATA, {2, 0, 0}},
+    {"every octet a pattern but the version's", spoil_all_but_version, MESSAGE_DATA, {3, 0, 0}},
+    {"UMF 9", spoil_format, MESSAGE_DATA, {3, 0, 0}},
+    {"a name of no characters", spoil_name, MESSAGE_DATA, {4, 0, 0}},
+    {"4,294,967,295 blocks", spoil_count, MESSAGE_DATA, {5, 0, 0}},
+    {"2,779,096,485 recipients", spoil_recipients, MESSAGE_DATA, {5, 0, 0}},
+    {"4,294,967,295 information addressees", spoil_information, MESSAGE_DATA, {5, 0, 0}},
+    {"2,779,096,485 references", spoil_references, MESSAGE_DATA, {5, 0, 0}},
+    {"both forms of an address", spoil_address, MESSAGE_DATA, {6, 0, 0}},
+    {"requests without an originator", spoil_originator, MESSAGE_DATA, {41, 1, 0}},
+    {"no data", as_it_is, 0, {53, 1, 0}},
+    {"several blocks, no header size", spoil_header_size, 2, {46, 0, 0}},
+    {"several blocks, the second without a size", spoil_second_size, 2, {46, 2, 0}},
+    {"G4 with UMF 1 in the second block", spoil_second_identity, 2, {43, 2, 0}},
+    {"the same, and a request without G5 in the first", spoil_both, 2, {43, 2, 0}},
+    {"sizes of two octets with three", doubled, 3, {52, 0, 0}},
+    {"a second block with G8 and an octet", spoil_answer, 2, {54, 2, 0}},
+    {"the same with UMF 4", spoil_forwarded_answer, 2, {53, 2, 0}},
+    {"too much data", as_it_is, PRUVELACCIO_DATAGRAM_OCTETS, {12, 0, 0}},
+    {"the most data that can be said", as_it_is, SIZE_MAX, {12, 0, 0}},
 };
 
 static void records_refused(call made)
@@ -414,7 +507,7 @@ static void records_refused(call made)
     for (size_t i = 0; i < LENGTH(record_cases); i++) {
         set_up();
         record_cases[i].spoil(&now.header);
-        refused_at_0(made, record_cases[i].what, 1, record_cases[i].count, record_cases[i].refusal);
+        refused(made, record_cases[i].what, 1, record_cases[i].count, record_cases[i].expected);
     }
 }
 
@@ -645,7 +738,7 @@ static void releasing_by_its_own_key(void)
         fill_table();
         memcpy(&before, &now, sizeof(now));
         const pruvelaccio_answer answer = pruvelaccio_release(&now.table, &now.table.rows[row].key);
-        expect("release", "a key of the table", answer.number == 0 && answer.place == 0);
+        expect("release", "a key of the table", is_done(answer));
         take_out(row);
         nothing_else_changed(release_call, "a key of the table: the table alone");
     }
@@ -822,6 +915,8 @@ static void without_octets(void)
     expect("list_row", "no size", pruvelaccio_list_row(table, 0, now.out, room, NULL).number == 0);
     expect("meaning", "of 30", strcmp(pruvelaccio_meaning(30), "the table is not well formed") == 0);
     expect("meaning", "of 31", strcmp(pruvelaccio_meaning(31), "unknown") == 0);
+    expect("meaning", "of 8", strcmp(pruvelaccio_meaning(8), "unknown") == 0);
+    expect("meaning", "of 54", strcmp(pruvelaccio_meaning(54), "a block has data octets and may have none") == 0);
 }
 
 /*
@@ -1048,6 +1143,7 @@ int main(void)
 {
     signal(SIGSEGV, stored);
     reading_refused();
+    reading_needless();
     reading_too_many();
     reading_done();
     version_1();

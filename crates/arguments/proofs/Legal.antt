@@ -14,13 +14,13 @@ use borrow.Author.Tests.{leb-true}
 use Rattle.codec.proofs.ListEnds.{whole-array, count-most, entry-legal}
 use Rattle.header.specs.Zero.{noAddress, noStamp, noResponse, noBlock}
 use Rattle.header.specs.Table.{maybe, address, addresses, originator, recipients, front, stamp, format, handling, optionalStamp, times, compliance, response, optionalResponse, block, blocks}
-use Rattle.header.specs.Rules as Rules
-use Rattle.header.specs.Rules.{_⇒_, ruleA, ruleI, all, usedBlocks, settingOf, rulesKept}
+use Rattle.header.specs.Order.{inOrder}
+use Rattle.header.specs.Rules.{_⇒_, ruleA, ruleI, rules, usedBlocks, settingOf}
 use Rattle.header.specs.declared.Front.{Front}
 use Rattle.header.specs.declared.Block.{Block}
 use Rattle.header.specs.declared.Header.{Header}
+use Rattle.header.proofs.Kept.{anyRule, rules-numbered, kept-at}
 use Rattle.header.proofs.Legal.{front-recipients, addressees-legal}
-use Rattle.table.proofs.Parts.{all-at}
 
 there : {A : Type 0} (x : A) (c : Codec A) (b : Bool) (y : A) → b ≡ true → present x c b .check y ≡ 0 → c .check y ≡ 0
 unfolding present
@@ -96,7 +96,7 @@ module _ (version : ℕ) where
 
 -- ---- a used block, by its number less one
 
-module _ (h : Header) (fields : blocks (h .front .version) .check (h .blocks) ≡ 0) (rules : rulesKept h ≡ true) (i : ℕ) (l : i < h .blocks .count) where
+module _ (h : Header) (fields : blocks (h .front .version) .check (h .blocks) ≡ 0) (kept : inOrder (rules (settingOf h)) (usedBlocks (h .blocks)) .number ≡ 0) (i : ℕ) (l : i < h .blocks .count) where
   abbrev here : Block
   here = getD (h .blocks .list) i noBlock
 
@@ -110,13 +110,9 @@ module _ (h : Header) (fields : blocks (h .front .version) .check (h .blocks) �
       rw length-take
       (omega (arith, whole-array noBlock (block (h .front .version)) 16 15 (h .blocks .list) (h .blocks .count) fields, count-most noBlock (block (h .front .version)) 16 15 (h .blocks .list) (h .blocks .count) fields))
 
-  at : (f : Block → Bool) → all f (usedBlocks (h .blocks)) ≡ true → f here ≡ true
-  at f e = rw (getD-take (h .blocks .count) (h .blocks .list) i noBlock l) at (all-at f (usedBlocks (h .blocks)) i noBlock e (omega (arith, used)))
-
   -- each of the rules, by its place
-  rule : (j : ℕ) → j < 9 → getD Rules.rules j ruleA (settingOf h) here ≡ true
-  unfolding rulesKept
-  rule j m = at (getD Rules.rules j ruleA (settingOf h)) (all-at (λ r. all (r (settingOf h)) (usedBlocks (h .blocks))) Rules.rules j ruleA rules m)
+  rule : (j : ℕ) → j < 9 → getD (rules (settingOf h)) j anyRule .each here ≡ true
+  rule j m = rw (getD-take (h .blocks .count) (h .blocks .list) i noBlock l) at (kept-at (rules (settingOf h)) (rules-numbered (settingOf h)) (usedBlocks (h .blocks)) kept j m i noBlock (omega (arith, used)))
 
   -- a block with requests has an originator
   pub originator-there : here .times .requests .present ≡ true → h .front .originator .present ≡ true

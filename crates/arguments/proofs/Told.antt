@@ -13,20 +13,23 @@ use Rattle.codec.specs.Refusals.{checkNo, faultNo}
 use Rattle.codec.specs.declared.Check.{Check}
 use Rattle.codec.proofs.Check as check
 use Rattle.codec.specs.declared.Fault.{Fault}
+use Rattle.codec.specs.declared.BlockNumber.{BlockNumber}
+use Rattle.codec.specs.Verdict.{Verdict, inBlock, plain, fine, firstOf}
+use Rattle.codec.proofs.Verdicts.{first-none, first-some, first-fine}
 use Rattle.codec.proofs.Told.{fault-positive, first-refusal}
 use Rattle.codec.proofs.ListEnds.{count-most}
 use Rattle.bits.specs.declared.BitPlace.{BitPlace}
 use Rattle.header.specs.declared.Block.{Block}
 use Rattle.header.specs.declared.Header.{Header}
-use Rattle.writer.specs.Writing.{Writing, done, rejected, answered, checking, faultOf, headerSize, told}
+use Rattle.writer.specs.Writing.{Writing, done, rejected, answered, checking, fieldsFault, recordVerdict, faultOf, headerSize, told}
 use Rattle.writer.specs.declared.Written.{Written}
 use Rattle.writer.proofs.Written as written
-use Rattle.writer.proofs.Ways.{not-done, valid-fields}
+use Rattle.writer.proofs.Ways.{not-done, answer-done, valid-fields}
 use Rattle.writer.proofs.Parts.{blocks-legal}
 use Rattle.header.specs.Table.{block, blocks}
 use Rattle.header.specs.Zero.{noBlock}
 use Rattle.arguments.specs.Arguments.{hasBlock, blockAt}
-use Rattle.arguments.specs.Told.{pendingNo, answerNo, writtenNo}
+use Rattle.arguments.specs.Told.{pendingNo, answerSays, writtenSays}
 use Rattle.arguments.specs.declared.PendingFault.{PendingFault}
 use Rattle.arguments.specs.declared.PendingFault.the-variants.{Record, NothingAsked, NoRecipient, KeyHeld, TableFull, NoResponse, NotOneRecipient, NoRow, NotARecipient, NothingOpen, NoBlock, IllFormed}
 use Rattle.arguments.specs.declared.Answer.{Answer}
@@ -68,72 +71,82 @@ block-is h zero d e l = let z : _≡_ {A = ℕ} 0 1 = cc in absurd (omega arith)
 block-is h (suc i) d e l = let k : suc i - 1 ≡ i = omega arith in any-default (h .blocks .list) (suc i - 1) d noBlock l ∙ rw k
 
 -- the block at hand is that block, in a record that is valid
-pub block-named : (h : Header) (n count : ℕ) (b : Block) → faultOf h count ≡ 0 → hasBlock h n ≡ true → (hasBlock h n ≡ true → h .blocks .count ≤ 16 → b ≡ blockAt h n) → b ≡ blockAt h n
+pub block-named : (h : Header) (n count : ℕ) (b : Block) → faultOf h count .number ≡ 0 → hasBlock h n ≡ true → (hasBlock h n ≡ true → h .blocks .count ≤ 16 → b ≡ blockAt h n) → b ≡ blockAt h n
 unfolding blocks viewed
 block-named h n count b v e is = is e (count-most noBlock (block (h .front .version)) 16 15 _ _ (blocks-legal h (valid-fields h count v)))
 
 -- ---- the writer's answer
 
-go-no : (w : Written) (k n : ℕ) → told w ≡ answered k n → writtenNo w ≡ k
-unfolding told answered writtenNo
-go-no (Written.Done m) zero n e = refl
-go-no (Written.Done m) (suc k) n e = not-done e
-go-no (Written.Refused f p) zero n e = not-done (sym e)
-go-no (Written.Refused f p) (suc k) n e = ap refusedNo e
+-- a record that is not refused tells nothing at all
+fault-fine : (h : Header) (count : ℕ) → faultOf h count .number ≡ 0 → fine ≡ faultOf h count
+unfolding faultOf
+fault-fine h count e =
+    let a = first-fine (plain (fieldsFault h)) _ e in
+    let b = first-fine (recordVerdict h count) _ (a .1) in
+    sym (first-none (plain (fieldsFault h)) _ (a .0) ∙ first-none (recordVerdict h count) _ (b .0) ∙ ap plain (b .1))
+
+refusedSays : Writing → Verdict
+refusedSays (done m) = fine
+refusedSays (rejected g q i) = inBlock i g
+
+pub written-says : (h : Header) (count : ℕ) (w : Written) → told w ≡ checking h count → writtenSays w ≡ faultOf h count
+unfolding checking told writtenSays answered refusedSays
+written-says h count (Written.Done m) e = fault-fine h count (answer-done (faultOf h count) (headerSize h) (m .0) (sym e) .0)
+written-says h count (Written.Refused f p b) e = go (faultOf h count .number) (faultOf h count .block) e
   where
-    refusedNo : Writing → ℕ
-    refusedNo (done m) = 0
-    refusedNo (rejected g q) = g
+    go : (k i : ℕ) → rejected (faultNo f) (p .0) (b .0) ≡ answered (inBlock i k) (headerSize h) → inBlock (b .0) (faultNo f) ≡ inBlock i k
+    go zero i d = not-done (sym d)
+    go (suc k) i d = ap refusedSays d
 
-pub written-no : (h : Header) (count : ℕ) (w : Written) → told w ≡ checking h count → writtenNo w ≡ faultOf h count
-unfolding checking
-written-no h count w e = go-no w (faultOf h count) (headerSize h) e
-
-pub written-fine : (w : Written) → tagOf written.the-type w ≡ 0 → 0 ≡ writtenNo w
-unfolding writtenNo
+pub written-fine : (w : Written) → tagOf written.the-type w ≡ 0 → fine ≡ writtenSays w
+unfolding writtenSays
 written-fine (Written.Done n) t = refl
-written-fine (Written.Refused f p) t = absurd (omega arith)
+written-fine (Written.Refused f p b) t = absurd (omega arith)
 
-pub written-bad : (w : Written) → tagOf written.the-type w ≡ 1 → 0 < writtenNo w
-unfolding writtenNo
+-- a valid record
+pub written-valid : (h : Header) (count : ℕ) (w : Written) → told w ≡ checking h count → tagOf written.the-type w ≡ 0 → faultOf h count .number ≡ 0
+written-valid h count w e t = ap (λ (v : Verdict). v .number) (sym (written-says h count w e) ∙ sym (written-fine w t))
+
+pub written-bad : (w : Written) → tagOf written.the-type w ≡ 1 → 0 < writtenSays w .number
+unfolding writtenSays
 written-bad (Written.Done n) t = absurd (omega arith)
-written-bad (Written.Refused f p) t = fault-positive f
+written-bad (Written.Refused f p b) t = fault-positive f
 
-pub written-fault : (w : Written) (f : Fault) (p : BitPlace) → w ≡ Written.Refused f p → faultNo f ≡ writtenNo w
-unfolding writtenNo
-written-fault w f p e = rw e
+pub written-fault : (w : Written) (f : Fault) (p : BitPlace) (b : BlockNumber) → w ≡ Written.Refused f p b → inBlock (b .0) (faultNo f) ≡ writtenSays w
+unfolding writtenSays
+written-fault w f p b e = rw e
 
 -- ---- a record's refusal, then 29 for the block, y for its group and z for the addressees
 
-module _ (f : ℕ) (a b c : Bool) (y z : ℕ) where
-  abbrev chain : ℕ
-  chain = first f (first (pick a 0 29) (first (pick b 0 y) (pick c 0 z)))
+module _ (f : Verdict) (a b c : Bool) (y z : ℕ) where
+  abbrev chain : Verdict
+  chain = firstOf f (plain (first (pick a 0 29) (first (pick b 0 y) (pick c 0 z))))
 
-  pub at-record : 0 < f → f ≡ chain
-  at-record l = first-refusal f _ l
+  pub at-record : 0 < f .number → f ≡ chain
+  at-record l = sym (first-some f _ l)
 
-  module _ (e : f ≡ 0) where
-    pub at-block : a ≡ false → 29 ≡ chain
-    unfolding first
+  module _ (e : f .number ≡ 0) where
+    pub at-block : a ≡ false → plain 29 ≡ chain
+    unfolding first firstOf
     at-block d = rw (e, d)
 
     module _ (t : a ≡ true) where
-      pub at-group : 0 < y → b ≡ false → y ≡ chain
-      unfolding first
-      at-group l d = rw (e, t, d) (first-refusal y _ l)
+      pub at-group : 0 < y → b ≡ false → plain y ≡ chain
+      unfolding first firstOf
+      at-group l d = rw (e, t, d) (ap plain (first-refusal y _ l))
 
       module _ (u : b ≡ true) where
-        pub at-addressees : c ≡ false → z ≡ chain
-        unfolding first
+        pub at-addressees : c ≡ false → plain z ≡ chain
+        unfolding first firstOf
         at-addressees d = rw (e, t, u, d)
 
-        pub at-none : c ≡ true → 0 ≡ chain
-        unfolding first
+        pub at-none : c ≡ true → fine ≡ chain
+        unfolding first firstOf
         at-none d = rw (e, t, u, d)
 
 -- ---- a key's check
 
-pub check-fine : (x : Check) → tagOf check.the-type x ≡ 0 → 0 ≡ checkNo x
+pub check-fine : (x : Check) → tagOf check.the-type x ≡ 0 → fine ≡ plain (checkNo x)
 unfolding checkNo
 check-fine Check.Fine t = refl
 check-fine (Check.Bad f) t = absurd (omega arith)
@@ -143,16 +156,16 @@ unfolding checkNo
 check-bad Check.Fine t = absurd (omega arith)
 check-bad (Check.Bad f) t = fault-positive f
 
-pub check-fault : (x : Check) (f : Fault) → x ≡ Check.Bad f → faultNo f ≡ checkNo x
+pub check-fault : (x : Check) (f : Fault) → x ≡ Check.Bad f → plain (faultNo f) ≡ plain (checkNo x)
 unfolding checkNo
 check-fault x f e = rw e
 
 -- ---- an answer
 
-pub answer-done : (x : Answer) → tagOf answer.the-type x ≡ 0 → answerNo x ≡ 0
-unfolding answerNo
-answer-done Answer.Done t = refl
-answer-done (Answer.Refused f p) t = absurd (omega arith)
+pub done-says : (x : Answer) → tagOf answer.the-type x ≡ 0 → answerSays x ≡ fine
+unfolding answerSays
+done-says Answer.Done t = refl
+done-says (Answer.Refused f p b) t = absurd (omega arith)
 
 pub fault-no : (f : PendingFault) → 0 < pendingNo f
 unfolding pendingNo
@@ -169,7 +182,7 @@ fault-no NothingOpen = lit< tt
 fault-no NoBlock = lit< tt
 fault-no IllFormed = lit< tt
 
-pub answer-bad : (x : Answer) → tagOf answer.the-type x ≡ 1 → 0 < answerNo x
-unfolding answerNo
+pub answer-bad : (x : Answer) → tagOf answer.the-type x ≡ 1 → 0 < answerSays x .number
+unfolding answerSays
 answer-bad Answer.Done t = absurd (omega arith)
-answer-bad (Answer.Refused f p) t = fault-no f
+answer-bad (Answer.Refused f p b) t = fault-no f

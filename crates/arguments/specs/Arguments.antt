@@ -8,6 +8,7 @@ use lib.ListN.{take, getD}
 use lib.Dec.{leb, eqb}
 use Rattle.codec.specs.Answer.{pick}
 use Rattle.codec.specs.Codec.{first}
+use Rattle.codec.specs.Verdict.{Verdict, plain, whether, firstOf}
 use Rattle.header.specs.Table.{address, stamp}
 use Rattle.header.specs.Zero.{noAddress, noBlock}
 use Rattle.header.specs.declared.Address.{Address as DeclaredAddress}
@@ -61,27 +62,24 @@ postingKey h b = record { address = h .front .originator .address; stamp = b .ti
 abbrev pub receiptKey : Header → Block → DeclaredKey
 receiptKey h b = record { address = firstRecipient h; stamp = b .response .response .stamp }
 
--- ---- the refusals that the arguments alone decide, in their order; 0 for none
+-- ---- the refusals that the arguments alone decide, in their order; only the record's own may tell a block
 
 -- of a posting: the record's own, 29, 20, 21
-unfoldable pub postingFault : Header → ℕ → ℕ → ℕ
+unfoldable pub postingFault : Header → ℕ → ℕ → Verdict
 postingFault h n count =
-    first (faultOf h count)
-    (first (pick (hasBlock h n) 0 29)
-    (first (pick (asks (blockAt h n)) 0 20) (pick (someRecipient h) 0 21)))
+    firstOf (faultOf h count)
+    (plain (first (pick (hasBlock h n) 0 29) (first (pick (asks (blockAt h n)) 0 20) (pick (someRecipient h) 0 21))))
 
 -- of a receipt: the record's own, 29, 24, 25
-unfoldable pub receiptFault : Header → ℕ → ℕ → ℕ
+unfoldable pub receiptFault : Header → ℕ → ℕ → Verdict
 receiptFault h n count =
-    first (faultOf h count)
-    (first (pick (hasBlock h n) 0 29)
-    (first (pick (blockAt h n .response .present) 0 24) (pick (h .front .originator .present && oneRecipient h) 0 25)))
+    firstOf (faultOf h count)
+    (plain (first (pick (hasBlock h n) 0 29) (first (pick (blockAt h n .response .present) 0 24) (pick (h .front .originator .present && oneRecipient h) 0 25))))
 
 -- ---- what the call names, where it is not refused
 
-abbrev pub named : ℕ → Operation → Call
-named zero d = inr d
-named (suc f) d = inl (suc f)
+abbrev pub named : Verdict → Operation → Call
+named v d = whether (v .number) (inr d) (inl v)
 
 unfoldable pub callOf : Arguments → Call
 callOf (posting h n count) =
@@ -90,7 +88,7 @@ callOf (posting h n count) =
 callOf (receiving h n count) =
     named (receiptFault h n count)
     (receipt (keyOf (receiptKey h (blockAt h n))) (addressOf (h .front .originator .address), blockAt h n .response .response .compliance .code))
-callOf (releasing k) = named (keyFault k) (release (keyOf k))
+callOf (releasing k) = named (plain (keyFault k)) (release (keyOf k))
 
 -- ---- a call's message: the key that it names, if it is a legal one (a call whose block, group or part is missing names none)
 

@@ -1,6 +1,7 @@
--- What the answers of posting, receipt and release tell: document 01's number, 0 for done, and the place, which is 0.
+-- What the answers of posting, receipt and release tell: the number, 0 for done, the block, and the place, which is 0.
 use Prim.Native.Nat.{ℕ}
 use Rattle.codec.specs.Refusals.{faultNo}
+use Rattle.codec.specs.Verdict.{Verdict, inBlock, fine}
 use Rattle.writer.specs.declared.Written.{Written}
 use Rattle.arguments.specs.declared.PendingFault.{PendingFault}
 use Rattle.arguments.specs.declared.PendingFault.the-variants.{Record, NothingAsked, NoRecipient, KeyHeld, TableFull, NoResponse, NotOneRecipient, NoRow, NotARecipient, NothingOpen, NoBlock, IllFormed}
@@ -31,15 +32,15 @@ pendingNo NoBlock = 29
 -- the table is not well formed
 pendingNo IllFormed = 30
 
-unfoldable pub answerNo : Answer → ℕ
-answerNo Answer.Done = 0
-answerNo (Answer.Refused f p) = pendingNo f
+unfoldable pub answerSays : Answer → Verdict
+answerSays Answer.Done = fine
+answerSays (Answer.Refused f p b) = inBlock (b .0) (pendingNo f)
 
 unfoldable pub answerPlace : Answer → ℕ
 answerPlace Answer.Done = 0
-answerPlace (Answer.Refused f p) = p .0
+answerPlace (Answer.Refused f p b) = p .0
 
--- the number in the writer's answer
-unfoldable pub writtenNo : Written → ℕ
-writtenNo (Written.Done n) = 0
-writtenNo (Written.Refused f p) = faultNo f
+-- the number and the block in the writer's answer
+unfoldable pub writtenSays : Written → Verdict
+writtenSays (Written.Done n) = fine
+writtenSays (Written.Refused f p b) = inBlock (b .0) (faultNo f)

@@ -6,14 +6,17 @@ ghost use lib.ListN.{length};
 ghost use Rattle.codec.specs.Refusals.{checkNo};
 ghost use Rattle.record_octets.specs.Record.{sizeOfBlock, blockIn, sizeOfHeader, headerIn};
 ghost use Rattle.arguments.specs.Arguments.{hasBlock, blockAt, asks, someRecipient, oneRecipient, postingFault, receiptFault};
-ghost use Rattle.arguments.specs.Told.{pendingNo, answerNo, answerPlace, writtenNo};
+ghost use Rattle.codec.specs.Verdict.{plain};
+ghost use Rattle.arguments.specs.Told.{pendingNo, answerSays, answerPlace, writtenSays};
 use bits::BitPlace;
 use bits::OctetSize;
 use cells::entry;
 use cells::load_flag;
 use cells::load_word;
+use codec::BlockNumber;
 use codec::Check;
 use codec::Fault;
+use codec::fault_number;
 use leaves::block::asks_acknowledge;
 use leaves::block::asks_machine;
 use leaves::block::asks_reply;
@@ -47,31 +50,55 @@ pub enum PendingFault {
     IllFormed,
 }
 
-// The answer of a call: done, or refused with the kind of fault and the place, which is always 0.
-pub enum Answer {
-    Done,
-    Refused(PendingFault, BitPlace),
+// The number of a refusal.
+pub fn pending_number(f: PendingFault) -> u32
+    ensures { λ r. ⌜ r ≡ pendingNo f ⌝ }
+{
+    match f {
+        PendingFault::Record(fault) => fault_number(fault),
+        PendingFault::NothingAsked => 20,
+        PendingFault::NoRecipient => 21,
+        PendingFault::KeyHeld => 22,
+        PendingFault::TableFull => 23,
+        PendingFault::NoResponse => 24,
+        PendingFault::NotOneRecipient => 25,
+        PendingFault::NoRow => 26,
+        PendingFault::NotARecipient => 27,
+        PendingFault::NothingOpen => 28,
+        PendingFault::NoBlock => 29,
+        PendingFault::IllFormed => 30,
+    }
 }
 
+// The answer of a call: done, or refused with the kind of fault, the place, which is always 0, and the block, 0 where
+// the refusal is about none.
+pub enum Answer {
+    Done,
+    Refused(PendingFault, BitPlace, BlockNumber),
+}
+
+// A refusal that is about no block.
 pub fn refusal(fault: PendingFault) -> Answer
-    ensures { λ r. ⌜ (answerNo r ≡ pendingNo fault) × (answerPlace r ≡ 0) ⌝ }
+    ensures { λ r. ⌜ (answerSays r ≡ plain (pendingNo fault)) × (answerPlace r ≡ 0) ⌝ }
 {
-    Answer::Refused(fault, BitPlace(0))
+    Answer::Refused(fault, BitPlace(0), BlockNumber(0))
 }
 
 // The writer's answer on the record.
 fn by_record(w: Written) -> Answer
-    ensures { λ r. ⌜ (answerNo r ≡ writtenNo w) × (answerPlace r ≡ 0) ⌝ }
+    ensures { λ r. ⌜ (answerSays r ≡ writtenSays w) × (answerPlace r ≡ 0) ⌝ }
 {
     match w {
         Written::Done(_) => Answer::Done,
-        Written::Refused(fault, _) => refusal(PendingFault::Record(fault)),
+        Written::Refused(fault, _, block) => {
+            Answer::Refused(PendingFault::Record(fault), BitPlace(0), block)
+        }
     }
 }
 
 // A key's own fault.
 pub fn by_check(fault: Check) -> Answer
-    ensures { λ r. ⌜ (answerNo r ≡ checkNo fault) × (answerPlace r ≡ 0) ⌝ }
+    ensures { λ r. ⌜ (answerSays r ≡ plain (checkNo fault)) × (answerPlace r ≡ 0) ⌝ }
 {
     match fault {
         Check::Fine => Answer::Done,
@@ -181,7 +208,7 @@ pub fn one_recipient(h: &[u8]) -> bool
 // A posting's arguments, its block at hand: the record's own refusals, then 29, 20 and 21.
 pub fn check_posting(h: &[u8; RECORD], block: &[u8], number: u32, count: OctetSize) -> Answer
     requires { ⌜ (length (now block) ≡ sizeOfBlock) × (hasBlock (headerIn (now h)) number ≡ true → headerIn (now h) .blocks .count ≤ 16 → blockIn (now block) ≡ blockAt (headerIn (now h)) number) ⌝ }
-    ensures { λ r. ⌜ (answerNo r ≡ postingFault (headerIn (now (h .entry))) number (count .0)) × (answerPlace r ≡ 0) ⌝ }
+    ensures { λ r. ⌜ (answerSays r ≡ postingFault (headerIn (now (h .entry))) number (count .0)) × (answerPlace r ≡ 0) ⌝ }
 {
     let valid = writer::check(h, count);
     let Written::Done(_) = valid else {
@@ -202,7 +229,7 @@ pub fn check_posting(h: &[u8; RECORD], block: &[u8], number: u32, count: OctetSi
 // A receipt's arguments, its block at hand: the record's own refusals, then 29, 24 and 25.
 pub fn check_receipt(h: &[u8; RECORD], block: &[u8], number: u32, count: OctetSize) -> Answer
     requires { ⌜ (length (now block) ≡ sizeOfBlock) × (hasBlock (headerIn (now h)) number ≡ true → headerIn (now h) .blocks .count ≤ 16 → blockIn (now block) ≡ blockAt (headerIn (now h)) number) ⌝ }
-    ensures { λ r. ⌜ (answerNo r ≡ receiptFault (headerIn (now (h .entry))) number (count .0)) × (answerPlace r ≡ 0) ⌝ }
+    ensures { λ r. ⌜ (answerSays r ≡ receiptFault (headerIn (now (h .entry))) number (count .0)) × (answerPlace r ≡ 0) ⌝ }
 {
     let valid = writer::check(h, count);
     let Written::Done(_) = valid else {

@@ -13,3 +13,4 @@ pub mod Agrees
 pub mod ListChecks
 pub mod ListEnds
 pub mod ListWrites
+pub mod Verdicts

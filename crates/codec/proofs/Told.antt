@@ -8,7 +8,7 @@ use Rattle.bits.specs.declared.BitPlace.{BitPlace}
 use Rattle.codec.specs.Codec.{first}
 use Rattle.codec.specs.Refusals.{checkNo, faultNo}
 use Rattle.codec.specs.declared.Fault.{Fault}
-use Rattle.codec.specs.declared.Fault.the-variants.{Short, Version, Code, BadText, Count, Forms, Security, Rule, Fill, Size, NoRoom, TooLong}
+use Rattle.codec.specs.declared.Fault.the-variants.{Short, Version, Code, BadText, Count, Forms, Security, Fill, NoRoom, TooLong, RuleA, RuleB, RuleC, RuleD, RuleE, RuleF, RuleG, RuleH, RuleI, HeaderSize, SizeSum, NoBody, NeedlessBody}
 use Rattle.codec.specs.declared.Flag.{Flag}
 use Rattle.codec.specs.declared.Number.{Number}
 use Rattle.codec.specs.declared.Step.{Step}
@@ -39,11 +39,22 @@ fault-positive BadText = lit< tt
 fault-positive Count = lit< tt
 fault-positive Forms = lit< tt
 fault-positive Security = lit< tt
-fault-positive Rule = lit< tt
 fault-positive Fill = lit< tt
-fault-positive Size = lit< tt
 fault-positive NoRoom = lit< tt
 fault-positive TooLong = lit< tt
+fault-positive RuleA = lit< tt
+fault-positive RuleB = lit< tt
+fault-positive RuleC = lit< tt
+fault-positive RuleD = lit< tt
+fault-positive RuleE = lit< tt
+fault-positive RuleF = lit< tt
+fault-positive RuleG = lit< tt
+fault-positive RuleH = lit< tt
+fault-positive RuleI = lit< tt
+fault-positive HeaderSize = lit< tt
+fault-positive SizeSum = lit< tt
+fault-positive NoBody = lit< tt
+fault-positive NeedlessBody = lit< tt
 
 pub first-refusal : (f g : ℕ) → 0 < f → f ≡ first f g
 unfolding first

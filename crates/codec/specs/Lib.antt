@@ -5,3 +5,4 @@ pub mod Lists
 pub mod Refusals
 pub mod Writes
 pub mod Same
+pub mod Verdict

@@ -3,13 +3,15 @@ use Prim.Native.Nat.{ℕ}
 use mathlib.Core.Bool.{Bool}
 use Rattle.codec.specs.Answer.{Answer, got, refused}
 use Rattle.codec.specs.declared.Fault.{Fault}
-use Rattle.codec.specs.declared.Fault.the-variants.{Short, Version, Code, BadText, Count, Forms, Security, Rule, Fill, Size, NoRoom, TooLong}
+use Rattle.codec.specs.declared.Fault.the-variants.{Short, Version, Code, BadText, Count, Forms, Security, Fill, NoRoom, TooLong, RuleA, RuleB, RuleC, RuleD, RuleE, RuleF, RuleG, RuleH, RuleI, HeaderSize, SizeSum, NoBody, NeedlessBody}
 use Rattle.codec.specs.declared.Number.{Number}
 use Rattle.codec.specs.declared.Flag.{Flag}
 use Rattle.codec.specs.declared.Step.{Step}
 use Rattle.codec.specs.declared.Check.{Check}
+use Rattle.codec.specs.declared.Finding.{Finding}
+use Rattle.codec.specs.Verdict.{Verdict, fine, inBlock}
 
--- document 01's number of a refusal
+-- the number of a refusal: document 01's, and document 02's for a rule or a size
 abbrev pub faultNo : Fault → ℕ
 -- bits run out inside a field
 faultNo Short = 1
@@ -25,16 +27,30 @@ faultNo Count = 5
 faultNo Forms = 6
 -- the presence bit of G10 is 1
 faultNo Security = 7
--- a rule (a) to (i) broken
-faultNo Rule = 8
 -- a fill bit is 1
 faultNo Fill = 9
--- a size wrong
-faultNo Size = 10
 -- the output is too short
 faultNo NoRoom = 11
 -- header and data are longer than a datagram
 faultNo TooLong = 12
+-- the rules (a) to (i), one number each
+faultNo RuleA = 41
+faultNo RuleB = 42
+faultNo RuleC = 43
+faultNo RuleD = 44
+faultNo RuleE = 45
+faultNo RuleF = 46
+faultNo RuleG = 47
+faultNo RuleH = 48
+faultNo RuleI = 49
+-- the header size is not the header's octets
+faultNo HeaderSize = 51
+-- the message sizes do not sum to the data octets
+faultNo SizeSum = 52
+-- a block that needs data octets has none
+faultNo NoBody = 53
+-- a block that may have none has some
+faultNo NeedlessBody = 54
 
 -- what a step says with the value beside it
 unfoldable pub answer : {A : Type 0} → Step → A → Answer A
@@ -62,3 +78,8 @@ flagStep (Flag.Refused f p) = Step.Refused f p
 unfoldable pub checkNo : Check → ℕ
 checkNo Check.Fine = 0
 checkNo (Check.Bad f) = faultNo f
+
+-- the number and the block of what the rules and the sizes say
+unfoldable pub findingSays : Finding → Verdict
+findingSays Finding.Fine = fine
+findingSays (Finding.Bad f b) = inBlock (b .0) (faultNo f)

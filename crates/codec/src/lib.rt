@@ -1,11 +1,12 @@
 // What reading, writing and checking answer: the kinds of fault, a step of reading, a number or a
 // flag that was read, and what a check says.
 ghost use mathlib.Core.Path.{_≡_};
-ghost use Rattle.codec.specs.Refusals.{numberStep, flagStep, checkNo};
+ghost use Rattle.codec.specs.Refusals.{numberStep, flagStep, checkNo, faultNo};
 ghost use Rattle.codec.specs.Codec.{first};
 use bits::BitPlace;
 
-// The kinds of refusal of a header, in the order of document 01's numbers 1 to 12.
+// The kinds of refusal of a header: those of fields, fill bits and lengths, then the rules (a) to (i), then the
+// sizes.
 pub enum Fault {
     Short,
     Version,
@@ -14,12 +15,57 @@ pub enum Fault {
     Count,
     Forms,
     Security,
-    Rule,
     Fill,
-    Size,
     NoRoom,
     TooLong,
+    RuleA,
+    RuleB,
+    RuleC,
+    RuleD,
+    RuleE,
+    RuleF,
+    RuleG,
+    RuleH,
+    RuleI,
+    HeaderSize,
+    SizeSum,
+    NoBody,
+    NeedlessBody,
 }
+
+// The number of a refusal, by which a host and the papers name it.
+pub fn fault_number(f: Fault) -> u32
+    ensures { λ r. ⌜ r ≡ faultNo f ⌝ }
+{
+    match f {
+        Fault::Short => 1,
+        Fault::Version => 2,
+        Fault::Code => 3,
+        Fault::BadText => 4,
+        Fault::Count => 5,
+        Fault::Forms => 6,
+        Fault::Security => 7,
+        Fault::Fill => 9,
+        Fault::NoRoom => 11,
+        Fault::TooLong => 12,
+        Fault::RuleA => 41,
+        Fault::RuleB => 42,
+        Fault::RuleC => 43,
+        Fault::RuleD => 44,
+        Fault::RuleE => 45,
+        Fault::RuleF => 46,
+        Fault::RuleG => 47,
+        Fault::RuleH => 48,
+        Fault::RuleI => 49,
+        Fault::HeaderSize => 51,
+        Fault::SizeSum => 52,
+        Fault::NoBody => 53,
+        Fault::NeedlessBody => 54,
+    }
+}
+
+// Which message block a refusal is about, counted from 1; 0 where it is about none.
+pub struct BlockNumber(pub u32);
 
 // How reading a group went on: at the next place, or with a refusal's kind and place.
 pub enum Step {
@@ -65,6 +111,12 @@ impl Flag {
 pub enum Check {
     Fine,
     Bad(Fault),
+}
+
+// What the rules and the sizes say of a record's blocks.
+pub enum Finding {
+    Fine,
+    Bad(Fault, BlockNumber),
 }
 
 // The first refusal of two checks.

@@ -18,9 +18,9 @@ module _ (s : List ℕ) where
   pub within : (x : Reading) → length (behindHeader s x) ≤ length s
   unfolding behindHeader
   within (accepted h n) = omega (arith, length-drop n s)
-  within (rejected f p) = omega arith
+  within (rejected f p b) = omega arith
 
   pub starts : (x : Reading) → drop (length s - length (behindHeader s x)) s ≡ behindHeader s x
   unfolding behindHeader
   starts (accepted h n) = from-end n s
-  starts (rejected f p) = drop-of-length-le s {i = length s - 0} (omega arith)
+  starts (rejected f p b) = drop-of-length-le s {i = length s - 0} (omega arith)

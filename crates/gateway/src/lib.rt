@@ -14,7 +14,7 @@ ghost use Rattle.table_octets.specs.Table.{keyIn, sizeOfTable, tableIn};
 ghost use Rattle.arguments.specs.Arguments.{posting, receiving, releasing, callOf};
 ghost use Rattle.transitions.specs.Transition.{Transition};
 ghost use Rattle.listing.specs.Listing as listing;
-ghost use Rattle.answers.specs.Numbers.{readNumbers, writeNumbers, listNumbers};
+ghost use Rattle.answers.specs.Numbers.{readNumbers, writeNumbers, listNumbers, tableSays};
 use answers::SizeAnswer;
 use answers::TableAnswer;
 use bits::OctetSize;
@@ -73,7 +73,7 @@ pub extern "C" fn pruvelaccio_post_octets(
     number: u32,
     count: usize,
 ) -> TableAnswer
-    ensures { λ r. ⌜ Transition (callOf (posting (headerIn (now (header .entry))) number count)) (now (t .entry)) (r .number) (now (t .exit)) × (r .place ≡ 0) ⌝ }
+    ensures { λ r. ⌜ Transition (callOf (posting (headerIn (now (header .entry))) number count)) (now (t .entry)) (tableSays r) (now (t .exit)) × (r .place ≡ 0) ⌝ }
 {
     answers::of_call(pending::post(t, header, number, OctetSize(count)))
 }
@@ -85,14 +85,14 @@ pub extern "C" fn pruvelaccio_receipt_octets(
     number: u32,
     count: usize,
 ) -> TableAnswer
-    ensures { λ r. ⌜ Transition (callOf (receiving (headerIn (now (header .entry))) number count)) (now (t .entry)) (r .number) (now (t .exit)) × (r .place ≡ 0) ⌝ }
+    ensures { λ r. ⌜ Transition (callOf (receiving (headerIn (now (header .entry))) number count)) (now (t .entry)) (tableSays r) (now (t .exit)) × (r .place ≡ 0) ⌝ }
 {
     answers::of_call(pending::receipt(t, header, number, OctetSize(count)))
 }
 
 #[no_mangle]
 pub extern "C" fn pruvelaccio_release_octets(t: &mut [u8; TABLE], key: &[u8; KEY]) -> TableAnswer
-    ensures { λ r. ⌜ Transition (callOf (releasing (keyIn (now (key .entry))))) (now (t .entry)) (r .number) (now (t .exit)) × (r .place ≡ 0) ⌝ }
+    ensures { λ r. ⌜ Transition (callOf (releasing (keyIn (now (key .entry))))) (now (t .entry)) (tableSays r) (now (t .exit)) × (r .place ≡ 0) ⌝ }
 {
     answers::of_call(pending::release(t, key))
 }

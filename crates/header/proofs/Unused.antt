@@ -1,4 +1,4 @@
--- Rules and sizes do not look at unused cells: a record and the same with its unused cells 0 keep the same rules and have the same sizes. Assumes nothing.
+-- Rules and sizes do not look at unused cells: a record and the same with its unused cells 0 are judged alike. Assumes nothing.
 use Prim.Native.Nat.{ℕ, zero, suc, _+_, _-_}
 use mathlib.Core.Path.{_≡_, refl, ap, ap₂}
 use mathlib.Core.Bool.{Bool, true, false, not, _&&_, _||_}
@@ -12,8 +12,9 @@ use Rattle.codec.specs.Lists.{listed, cells}
 use Rattle.optional.specs.Optionals.{optionalNumber}
 use Rattle.header.specs.Table.{optionalIdentity, format, handling, optionalStamp, optionalDtg, requests, optionalRequests, times, compliance, response, optionalResponse, block, blocks, front, originator}
 use Rattle.header.specs.Zero.{noRequests, noResponse, noBlock}
-use Rattle.header.specs.Rules.{_⇒_, ruleA, ruleB, ruleC, ruleD, ruleE, ruleF, ruleG, ruleH, ruleI, all, usedBlocks, settingOf, rulesKept}
-use Rattle.header.specs.Sizes.{sizeOf, shares, total, owns, sizesRight}
+use Rattle.header.specs.Order.{Rule, over, inOrder}
+use Rattle.header.specs.Rules.{_⇒_, ruleA, ruleB, ruleC, ruleD, ruleE, ruleF, ruleG, ruleH, ruleI, rules, usedBlocks, settingOf}
+use Rattle.header.specs.Sizes.{sizeOf, shares, total, hasBody, noneNeedless, sizeRules, wrongSize, judgement}
 use Rattle.header.specs.Same.{headerNorm}
 use Rattle.header.specs.declared.Setting.{Setting}
 use Rattle.header.specs.declared.Block.{Block}
@@ -31,16 +32,27 @@ used f zero l x = refl
 used f (suc k) [] x = let e : 0 - suc k ≡ 0 = omega arith in rw e
 used {A = A} f (suc k) (y ∷ l) x = let e : suc (length l) - suc k ≡ length l - k = omega arith in rw e (ap (λ (t : List A). f y ∷ t) (used f k l x))
 
+-- rules that do not tell a block from what f makes of it
+module _ {A : Type 0} (f : A → A) where
+  abbrev Alike : List (Rule A) → Type 0
+  Alike [] = Unit {0}
+  Alike (r ∷ rs) = ((b : A) → r .each (f b) ≡ r .each b) × Alike rs
+
+  over-norm : (r : Rule A) → ((b : A) → r .each (f b) ≡ r .each b) → (n : ℕ) (bs : List A) → over r n (map f bs) ≡ over r n bs
+  unfolding over
+  over-norm r h n [] = refl
+  over-norm r h n (b ∷ bs) = rw (h b, over-norm r h (n + 1) bs)
+
+  order-norm : (rs : List (Rule A)) → Alike rs → (bs : List A) → inOrder rs (map f bs) ≡ inOrder rs bs
+  unfolding inOrder
+  order-norm [] h bs = refl
+  order-norm (r ∷ rs) h bs = rw (over-norm r (h .0) 1 bs, order-norm rs (h .1) bs)
+
 -- what holds of the blocks, in every version
 module _ (version : ℕ) where
   pub used-norm : (g : Blocks) → usedBlocks (blocks version .norm g) ≡ map (block version .norm) (usedBlocks g)
   unfolding blocks viewed cells
   used-norm g = rw (listed-norm noBlock (block version) 15 (take (g .count) (g .list))) (used (block version .norm) (g .count) (g .list) noBlock)
-
-  all-norm : (f : Block → Bool) → ((b : Block) → f (block version .norm b) ≡ f b) → (bs : List Block) → all f (map (block version .norm) bs) ≡ all f bs
-  unfolding all
-  all-norm f h [] = refl
-  all-norm f h (b ∷ bs) = ap₂ _&&_ (h b) (all-norm f h bs)
 
   -- each rule, of one block
   module _ (x : Setting) (b : Block) where
@@ -116,24 +128,28 @@ module _ (version : ℕ) where
   total-norm [] = refl
   total-norm (x ∷ xs) = ap (λ (n : ℕ). x .1 + n) (total-norm xs)
 
-  owns-norm : (l : List (Block × ℕ)) → all owns (map cleaned l) ≡ all owns l
-  unfolding all block viewed _thenBy_ optionalResponse format flag number
-  owns-norm [] = refl
-  owns-norm (x ∷ xs) = ap (λ (b : Bool). owns x && b) (owns-norm xs)
+  body-norm : (p : Block × ℕ) → hasBody (cleaned p) ≡ hasBody p
+  unfolding hasBody block viewed _thenBy_ optionalResponse format flag number
+  body-norm p = refl
 
-  pub sizes-norm : (g : Blocks) (octets : ℕ) → sizesRight (blocks version .norm g) octets ≡ sizesRight g octets
-  unfolding sizesRight
-  sizes-norm g octets = rw (used-norm g, shares-norm octets (usedBlocks g), total-norm (shares octets (usedBlocks g)), owns-norm (shares octets (usedBlocks g)))
+  needless-norm : (p : Block × ℕ) → noneNeedless (cleaned p) ≡ noneNeedless p
+  unfolding noneNeedless block viewed _thenBy_ optionalResponse flag
+  needless-norm p = refl
 
-same-setting : (h : Header) → settingOf (headerNorm h) ≡ settingOf h
+  sizes-norm : (holds : Bool) (octets : ℕ) (bs : List Block) → wrongSize holds octets (map (block version .norm) bs) ≡ wrongSize holds octets bs
+  unfolding wrongSize
+  sizes-norm holds octets bs =
+      rw (shares-norm octets bs, total-norm (shares octets bs))
+      (order-norm cleaned (sizeRules holds (eqb (total (shares octets bs)) octets)) (λ p. refl, (λ p. refl, (body-norm, (needless-norm, tt)))) (shares octets bs))
+
+  rules-norm : (x : Setting) (bs : List Block) → inOrder (rules x) (map (block version .norm) bs) ≡ inOrder (rules x) bs
+  rules-norm x bs =
+      order-norm (block version .norm) (rules x) (norm-a x, (norm-b x, (norm-c x, (norm-d x, (norm-e x, (norm-f x, (norm-g x, (norm-h x, (norm-i x, tt))))))))) bs
+
+  pub judgement-norm : (x : Setting) (holds : Bool) (octets : ℕ) (g : Blocks) → judgement x holds octets (blocks version .norm g) ≡ judgement x holds octets g
+  unfolding judgement
+  judgement-norm x holds octets g = rw (used-norm g, rules-norm x (usedBlocks g), sizes-norm holds octets (usedBlocks g))
+
+pub same-setting : (h : Header) → settingOf (headerNorm h) ≡ settingOf h
 unfolding headerNorm front blocks viewed cells _thenBy_ originator optionalNumber flag
 same-setting h = refl
-
-pub rules-norm : (h : Header) → rulesKept (headerNorm h) ≡ rulesKept h
-unfolding rulesKept all headerNorm
-rules-norm h = rw (same-setting h, used-norm (h .front .version) (h .blocks)) (
-    let v = h .front .version in
-    let x = settingOf h in
-    let bs = usedBlocks (h .blocks) in
-    let each : (rule : Setting → Block → Bool) → ((b : Block) → rule x (block v .norm b) ≡ rule x b) → all (rule x) (map (block v .norm) bs) ≡ all (rule x) bs = λ rule e. all-norm v (rule x) e bs in
-    rw (each ruleA (norm-a v x), each ruleB (norm-b v x), each ruleC (norm-c v x), each ruleD (norm-d v x), each ruleE (norm-e v x), each ruleF (norm-f v x), each ruleG (norm-g v x), each ruleH (norm-h v x), each ruleI (norm-i v x)))

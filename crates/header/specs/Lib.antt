@@ -1,5 +1,6 @@
 pub mod Zero
 pub mod Table
+pub mod Order
 pub mod Rules
 pub mod Sizes
 pub mod Same

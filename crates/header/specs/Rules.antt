@@ -1,8 +1,9 @@
--- Document 01's rules (a) to (i), in their order. Each says of a block, in its setting, that the rule is kept.
+-- Document 01's rules (a) to (i), in their order, with document 02's numbers. Each says of a block, in its setting, that the rule is kept.
 use mathlib.Core.Bool.{Bool, true, false, not, _&&_, _||_}
 use mathlib.Core.List.{List, [], _∷_}
 use lib.ListN.{take}
 use lib.Dec.{leb, eqb}
+use Rattle.header.specs.Order.{Rule, ofEach}
 use Rattle.header.specs.declared.Block.{Block}
 use Rattle.header.specs.declared.Blocks.{Blocks}
 use Rattle.header.specs.declared.Header.{Header}
@@ -34,9 +35,13 @@ ruleD x b = eqb (b .format .umf) 4 ⇒ not (b .format .identity .present)
 unfoldable pub ruleE : Setting → Block → Bool
 ruleE x b = x .compression ⇒ not (b .response .present)
 
--- (f) where there are several blocks, the header has its size and so has this block
+-- (f) where there are several blocks, the header has its size
+unfoldable pub ruleFHeader : Setting → Bool
+ruleFHeader x = x .several ⇒ x .sized
+
+-- and so has this block
 unfoldable pub ruleF : Setting → Block → Bool
-ruleF x b = x .several ⇒ (x .sized && b .handling .size .present)
+ruleF x b = x .several ⇒ b .handling .size .present
 
 -- (g) only R/C 6 has a reason why one cannot comply
 unfoldable pub ruleG : Setting → Block → Bool
@@ -53,8 +58,19 @@ ruleI x b =
     ⇒ (b .times .requests .requests .machine || b .times .requests .requests .acknowledge || b .times .requests .requests .reply)
     ⇒ b .times .origin .present
 
-abbrev pub rules : List (Setting → Block → Bool)
-rules = ruleA ∷ ruleB ∷ ruleC ∷ ruleD ∷ ruleE ∷ ruleF ∷ ruleG ∷ ruleH ∷ ruleI ∷ []
+-- in their order; of the record as a whole only (f) asks something
+abbrev pub rules : Setting → List (Rule Block)
+rules x =
+    ofEach 41 (ruleA x)
+    ∷ ofEach 42 (ruleB x)
+    ∷ ofEach 43 (ruleC x)
+    ∷ ofEach 44 (ruleD x)
+    ∷ ofEach 45 (ruleE x)
+    ∷ record { number = 46; whole = ruleFHeader x; each = ruleF x }
+    ∷ ofEach 47 (ruleG x)
+    ∷ ofEach 48 (ruleH x)
+    ∷ ofEach 49 (ruleI x)
+    ∷ []
 
 unfoldable pub all : {A : Type 0} → (A → Bool) → List A → Bool
 all f [] = true
@@ -71,7 +87,3 @@ settingOf h =
       sized = h .sized;
       several = leb 2 (h .blocks .count);
     }
-
--- every rule, in order, is kept by every block from the first
-unfoldable pub rulesKept : Header → Bool
-rulesKept h = all (λ rule. all (rule (settingOf h)) (usedBlocks (h .blocks))) rules

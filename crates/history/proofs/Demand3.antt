@@ -10,6 +10,7 @@ use mathlib.Core.Bool.{true}
 use mathlib.Core.List.{List, [], _∷_, _++_, map}
 use lib.ListN.{length}
 use native.Mathlib.Omega.{arith}
+use Rattle.codec.specs.Verdict.{Verdict}
 use Rattle.order.specs.Calls.{Rows}
 use Rattle.order.specs.Sheet as theory
 use Rattle.calls.specs.Runs.{exchange, final, answers, states, Changed}
@@ -46,7 +47,7 @@ unfolding listing
 listings n out [] w = refl
 listings n out (t ∷ ts) w = ap₂ _∷_ (rw (w .0)) (listings n out ts (w .1))
 
-module _ {t e : List ℕ} {cs : List Arguments} {xs : List ℕ} {ts : List (List ℕ)} (run : Run t cs xs ts e) (none : tableIn t .count ≡ 0) where
+module _ {t e : List ℕ} {cs : List Arguments} {xs : List Verdict} {ts : List (List ℕ)} (run : Run t cs xs ts e) (none : tableIn t .count ≡ 0) where
   w : Went t cs xs ts e
   w = went run (empty-well (tableIn t) none)
 
@@ -55,7 +56,7 @@ module _ {t e : List ℕ} {cs : List Arguments} {xs : List ℕ} {ts : List (List
   answers-are =
       w .answered ∙ ap (λ (s : Rows). answers onRows s cs) (no-rows (tableIn t) none)
       ∙ calls.history-answers callOf cs
-      ∙ ap (λ (f : Arguments → Sheet → ℕ × Sheet). answers f [] cs) (sym plain)
+      ∙ ap (λ (f : Arguments → Sheet → Verdict × Sheet). answers f [] cs) (sym plain)
 
   -- the listing before the first call and after each
   pub listings-are : (n : ℕ) (out : List ℕ) → map (λ t. tableListing t n out) ts ≡ map (λ s. sheetListing s n out) (states sheet [] cs)
@@ -63,7 +64,7 @@ module _ {t e : List ℕ} {cs : List Arguments} {xs : List ℕ} {ts : List (List
       listings n out ts (w .well)
       ∙ ap (map (rowsListing n out)) (w .rows ∙ ap (λ (s : Rows). states onRows s cs) (no-rows (tableIn t) none))
       ∙ calls.history-tables callOf (rowsListing n out) cs
-      ∙ ap₂ (λ (f : Arguments → Sheet → ℕ × Sheet) (g : Sheet → Sheet). map (λ s. rowsListing n out (g s)) (states f [] cs)) (sym plain) (λ i s. sym (in-key-order s) i)
+      ∙ ap₂ (λ (f : Arguments → Sheet → Verdict × Sheet) (g : Sheet → Sheet). map (λ s. rowsListing n out (g s)) (states f [] cs)) (sym plain) (λ i s. sym (in-key-order s) i)
 
   -- every table on the way is well formed: 30 never arises
   pub well-formed : AllWell ts × (wellFormed (tableIn e) ≡ true)
@@ -76,11 +77,11 @@ module _ {t e : List ℕ} {cs : List Arguments} {xs : List ℕ} {ts : List (List
   rows-answers = w .answered ∙ ap (λ (s : Rows). answers onRows s cs) (no-rows (tableIn t) none)
 
 -- two runs that differ in two neighbours
-module _ {t e t′ e′ xs ys : List ℕ} {ts ts′ : List (List ℕ)} (pre : List Arguments) (a b : Arguments) (rest : List Arguments)
+module _ {t e t′ e′ : List ℕ} {xs ys : List Verdict} {ts ts′ : List (List ℕ)} (pre : List Arguments) (a b : Arguments) (rest : List Arguments)
     (run : Run t (pre ++ a ∷ (b ∷ rest)) xs ts e) (run′ : Run t′ (pre ++ b ∷ (a ∷ rest)) ys ts′ e′) (none : tableIn t .count ≡ 0) (none′ : tableIn t′ .count ≡ 0)
     (may : MayChange a b) (free : lineFor a + lineFor b + length (final sheet [] pre) ≤ 32) where
   held : length (final onRows [] pre) ≡ length (final sheet [] pre)
-  held = calls.history-count callOf pre ∙ ap (λ (f : Arguments → Sheet → ℕ × Sheet). length (final f [] pre)) (sym plain)
+  held = calls.history-count callOf pre ∙ ap (λ (f : Arguments → Sheet → Verdict × Sheet). length (final f [] pre)) (sym plain)
 
   changed : Changed onRows [] pre a b rest
   changed = calls.change-of-places callOf pre a b rest (apart a b may) (omega (arith, held, lines-within a, lines-within b))
@@ -102,10 +103,10 @@ module _ {t e t′ e′ xs ys : List ℕ} {ts ts′ : List (List ℕ)} (pre : Li
 no-row-used : tableIn (zeros sizeOfTable) .count ≡ 0
 no-row-used = zeros-count sizeOfTable refl
 
-images : {e : List ℕ} {cs : List Arguments} {xs : List ℕ} {ts : List (List ℕ)} → Run (zeros sizeOfTable) cs xs ts e → AllImages ts × IsImage e
+images : {e : List ℕ} {cs : List Arguments} {xs : List Verdict} {ts : List (List ℕ)} → Run (zeros sizeOfTable) cs xs ts e → AllImages ts × IsImage e
 images run = run-images run (empty-well (tableIn (zeros sizeOfTable)) no-row-used) (zeros-image sizeOfTable refl)
 
-same-octets : {e e′ xs ys : List ℕ} {ts ts′ : List (List ℕ)} (pre : List Arguments) (a b : Arguments) (rest : List Arguments) →
+same-octets : {e e′ : List ℕ} {xs ys : List Verdict} {ts ts′ : List (List ℕ)} (pre : List Arguments) (a b : Arguments) (rest : List Arguments) →
     Run (zeros sizeOfTable) (pre ++ a ∷ (b ∷ rest)) xs ts e → Run (zeros sizeOfTable) (pre ++ b ∷ (a ∷ rest)) ys ts′ e′ →
     MayChange a b → lineFor a + lineFor b + length (final sheet [] pre) ≤ 32 → e′ ≡ e
 same-octets pre a b rest run run′ may free =

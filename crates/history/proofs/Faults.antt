@@ -1,9 +1,9 @@
 -- The numbers that a refusal can have. P says which numbers are meant; each part says what P has to hold of, for every check to give such a number: first the ways of making a
 -- codec, then addresses and stamps and so keys, then the other fields of Table I and so records. Assumes nothing.
-use Prim.Native.Nat.{ℕ, zero, suc, _+_, _-_}
+use Prim.Native.Nat.{ℕ, zero, suc, _+_, _-_, _≤_}
 use mathlib.Core.Bool.{Bool, true, false, not}
-use mathlib.Core.List.{List, []}
-use lib.Dec.{leb}
+use mathlib.Core.List.{List, [], _∷_}
+use lib.Dec.{T, leb, lit≤}
 use Rattle.bits.specs.Units.{datagramLimit}
 use Rattle.codec.specs.Answer.{pick}
 use Rattle.codec.specs.Codec.{Codec, number, flag, nothing, first, within, _thenBy_, _&_, present, optional, viewed, shaped, tested, unless, must, _closedBy_}
@@ -13,10 +13,14 @@ use Rattle.optional.specs.Optionals.{optionalNumber}
 use Rattle.text.specs.Texts.{text, noText}
 use Rattle.header.specs.Zero.{noAddress, noAddresses, noDtg, noStamp, noIdentity, noRequests, noResponse, noReference, noReferences, noBlock}
 use Rattle.header.specs.Table.{maybe, optionalText, unitName, address, addresses, originator, recipients, roomBehind, information, front, date, time, dtg, stamp, identity, optionalIdentity, standardVersion, format, codes, handling, optionalStamp, optionalDtg, requests, optionalRequests, times, compliance, response, optionalResponse, reference, references, optionalReferences, block, blocks}
-use Rattle.header.specs.Rules.{rulesKept}
-use Rattle.header.specs.Sizes.{sizesRight}
+use Rattle.codec.specs.Verdict.{Verdict, plain, fine, inBlock, firstOf}
+use Rattle.header.specs.Order.{Rule, over, inOrder}
+use Rattle.header.specs.Rules.{rules, settingOf, usedBlocks}
+use Rattle.header.specs.Sizes.{total, shares, sizeRules, wrongSize, judgement}
+use Rattle.header.specs.declared.Blocks.{Blocks}
+use Rattle.header.specs.declared.Setting.{Setting}
 use Rattle.header.specs.declared.Header.{Header}
-use Rattle.writer.specs.Writing.{headerSize, faultOf}
+use Rattle.writer.specs.Writing.{headerSize, fieldsFault, recordVerdict, faultOf}
 use Rattle.order.specs.declared.Key.{Key as DeclaredKey}
 use Rattle.order.specs.Values.{keyFault}
 
@@ -34,6 +38,40 @@ module _ (P : ℕ → Type 0) (none-given : P 0) where
   pub test-gives : (b : Bool) (f : ℕ) → P f → P (pick b 0 f)
   test-gives true f hf = none-given
   test-gives false f hf = hf
+
+  -- ---- the first of two refusals, and rules in their order
+
+  pub first-of-gives : (v w : Verdict) → P (v .number) → P (w .number) → P (firstOf v w .number)
+  unfolding firstOf
+  first-of-gives v w = go (v .number) (v .block)
+    where
+      go : (n b : ℕ) → P n → P (w .number) → P (firstOf (inBlock b n) w .number)
+      go zero b hv hw = hw
+      go (suc n) b hv hw = hv
+
+  module _ {A : Type 0} where
+    over-gives : (r : Rule A) → P (r .number) → (n : ℕ) (bs : List A) → P (over r n bs .number)
+    unfolding over
+    over-gives r h n [] = none-given
+    over-gives r h n (b ∷ bs) = go (r .each b) (over-gives r h (n + 1) bs)
+      where
+        go : (t : Bool) → P (over r (n + 1) bs .number) → P (pick t (over r (n + 1) bs) (inBlock n (r .number)) .number)
+        go true more = more
+        go false more = h
+
+    -- each number is given
+    abbrev Numbers : List (Rule A) → Type 0
+    Numbers [] = Unit {0}
+    Numbers (r ∷ rs) = P (r .number) × Numbers rs
+
+    order-gives : (rs : List (Rule A)) → Numbers rs → (bs : List A) → P (inOrder rs bs .number)
+    unfolding inOrder
+    order-gives [] h bs = none-given
+    order-gives (r ∷ rs) h bs = first-of-gives (pick (r .whole) fine (plain (r .number))) _ (go (r .whole)) (first-of-gives (over r 1 bs) (inOrder rs bs) (over-gives r (h .0) 1 bs) (order-gives rs (h .1) bs))
+      where
+        go : (t : Bool) → P (pick t fine (plain (r .number)) .number)
+        go true = none-given
+        go false = h .0
 
   -- ---- the ways of making a codec
 
@@ -139,7 +177,7 @@ module _ (P : ℕ → Type 0) (none-given : P 0) where
 
     -- ---- the other fields of Table I; and a record
 
-    module _ (version-given : P 2) (count-given : P 5) (security-given : P 7) (rule-given : P 8) (size-given : P 10) (long-given : P 12) where
+    module _ (version-given : P 2) (count-given : P 5) (security-given : P 7) (rule-given : (n : ℕ) → 41 ≤ n → n ≤ 54 → P n) (long-given : P 12) where
       recurs-gives : (n : ℕ) → Gives (recurs n)
       unfolding recurs
       recurs-gives zero = must-gives false 5 count-given
@@ -227,9 +265,19 @@ module _ (P : ℕ → Type 0) (none-given : P 0) where
       unfolding blocks
       blocks-gives version = shaped-gives _ _ (cells-gives noBlock 16 16 5 count-given (listed-gives noBlock (block-gives version) 15))
 
-      pub fault-gives : (h : Header) (count : ℕ) → P (faultOf h count)
+      -- a rule's number, or a size's
+      given : (n : ℕ) → T (leb 41 n) → T (leb n 54) → P n
+      given n l m = rule-given n (lit≤ l) (lit≤ m)
+
+      judgement-gives : (x : Setting) (holds : Bool) (octets : ℕ) (g : Blocks) → P (judgement x holds octets g .number)
+      unfolding judgement wrongSize
+      judgement-gives x holds octets g =
+          first-of-gives (inOrder (rules x) (usedBlocks g)) _
+          (order-gives (rules x) (given 41 tt tt, (given 42 tt tt, (given 43 tt tt, (given 44 tt tt, (given 45 tt tt, (given 46 tt tt, (given 47 tt tt, (given 48 tt tt, (given 49 tt tt, tt))))))))) (usedBlocks g))
+          (order-gives (sizeRules holds _) (given 51 tt tt, (given 52 tt tt, (given 53 tt tt, (given 54 tt tt, tt)))) (shares octets (usedBlocks g)))
+
+      pub fault-gives : (h : Header) (count : ℕ) → P (faultOf h count .number)
       unfolding faultOf
       fault-gives h count =
-          first-gives (first-gives (front-gives .gives (h .front)) (blocks-gives (h .front .version) .gives (h .blocks)))
-          (first-gives (test-gives (rulesKept h) 8 rule-given)
-          (first-gives (test-gives (sizesRight (h .blocks) count) 10 size-given) (test-gives (leb (headerSize h + count) datagramLimit) 12 long-given)))
+          first-of-gives (plain (fieldsFault h)) _ (first-gives (front-gives .gives (h .front)) (blocks-gives (h .front .version) .gives (h .blocks)))
+          (first-of-gives (recordVerdict h count) _ (judgement-gives (settingOf h) true count (h .blocks)) (test-gives (leb (headerSize h + count) datagramLimit) 12 long-given))

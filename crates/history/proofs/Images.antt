@@ -12,6 +12,7 @@ use lib.ListN.{length, take, drop, set, getD, replicate, length-append, length-d
 use lib.Seq.{length-take-le}
 use lib.Dec.{leb}
 use borrow.Author.Tests.{leb-false}
+use Rattle.codec.specs.Verdict.{Verdict, plain}
 use Rattle.calls.specs.Keyed.{find, put, InOrder}
 use Rattle.calls.specs.Machine.{step}
 use Rattle.calls.specs.Runs.{stop, call}
@@ -126,8 +127,8 @@ module _ (s : Rows) (few : length s ≤ 32) (fits : Each Fitting s) where
   -- ---- the calls, by what they find: s stands in order, and the rows behind a posting or a release fit too
 
   module _ (order : InOrder byKey s) (k : Key) where
-    post-image : (r : Row) (o : Option Row) → find byKey k s ≡ o → (b : Bool) → leb 32 (length s) ≡ b → theory.entered rules r o (cond b (some 23) none) .0 ≡ 0
-        → Each Fitting (put byKey k (theory.entered rules r o (cond b (some 23) none) .2) s) → doneOn (inr (post k r)) s (imageOf s) ≡ imageOf (put byKey k (theory.entered rules r o (cond b (some 23) none) .2) s)
+    post-image : (r : Row) (o : Option Row) → find byKey k s ≡ o → (b : Bool) → leb 32 (length s) ≡ b → theory.entered rules r o (cond b (some (plain 23)) none) .0 .number ≡ 0
+        → Each Fitting (put byKey k (theory.entered rules r o (cond b (some (plain 23)) none) .2) s) → doneOn (inr (post k r)) s (imageOf s) ≡ imageOf (put byKey k (theory.entered rules r o (cond b (some (plain 23)) none) .2) s)
     unfolding doneOn
     post-image r (some x) e b f z g = absurd (omega (arith, z))
     post-image r none e true f z g = absurd (omega (arith, z))
@@ -136,7 +137,7 @@ module _ (s : Rows) (few : length s ≤ 32) (fits : Each Fitting s) where
         let p : put byKey k (some r) s ≡ take at s ++ (k, r) ∷ drop at s = put-in byKey k r s e in
         inserted-image at (k, r) (place-within byKey k s) (leb-false 32 (length s) f) (subst (Each Fitting) p g) ∙ ap imageOf (sym p)
 
-    release-image : (o : Option Row) → find byKey k s ≡ o → theory.released rules o .0 ≡ 0 → Each Fitting (put byKey k (theory.released rules o .2) s)
+    release-image : (o : Option Row) → find byKey k s ≡ o → theory.released rules o .0 .number ≡ 0 → Each Fitting (put byKey k (theory.released rules o .2) s)
         → doneOn (inr (release k)) s (imageOf s) ≡ imageOf (put byKey k (theory.released rules o .2) s)
     unfolding doneOn
     release-image none e z g = absurd (omega (arith, z))
@@ -146,7 +147,7 @@ module _ (s : Rows) (few : length s ≤ 32) (fits : Each Fitting s) where
 
     module _ (p : Receipt) where
       -- where the row has the answerer
-      written-image : (r : Row) → find byKey k s ≡ some r → (old : Mark) → find byAddress (p .0) (r .1) ≡ some old → (n : Option Mark) → theory.patched rules r (patched (p .0) r (written n)) .0 ≡ 0
+      written-image : (r : Row) → find byKey k s ≡ some r → (old : Mark) → find byAddress (p .0) (r .1) ≡ some old → (n : Option Mark) → theory.patched rules r (patched (p .0) r (written n)) .0 .number ≡ 0
           → within (placeOf byKey k s * 1592) 1592 (settled p r (written n .1)) (imageOf s) ≡ imageOf (put byKey k (theory.patched rules r (patched (p .0) r (written n)) .2) s)
       written-image r e old f none z = absurd (omega (arith, z))
       written-image r e old f (some new) z =
@@ -156,18 +157,18 @@ module _ (s : Rows) (few : length s ≤ 32) (fits : Each Fitting s) where
           changed-image (placeOf byKey k s) x (k, (r .0, mark (p .0) (some new) (r .1))) (settled p r (some new)) (h .inside) (h .entry x) (settled-image k r p old new fit f)
           ∙ ap imageOf (sym (h .changed (r .0, mark (p .0) (some new) (r .1))))
 
-      replied-image : (r : Row) → find byKey k s ≡ some r → (o : Option Mark) → find byAddress (p .0) (r .1) ≡ o → theory.patched rules r (patched (p .0) r (reply (r .0) (p .1) o)) .0 ≡ 0
+      replied-image : (r : Row) → find byKey k s ≡ some r → (o : Option Mark) → find byAddress (p .0) (r .1) ≡ o → theory.patched rules r (patched (p .0) r (reply (r .0) (p .1) o)) .0 .number ≡ 0
           → within (placeOf byKey k s * 1592) 1592 (settled p r (reply (r .0) (p .1) o .1)) (imageOf s) ≡ imageOf (put byKey k (theory.patched rules r (patched (p .0) r (reply (r .0) (p .1) o)) .2) s)
       replied-image r e none f z = absurd (omega (arith, z))
       replied-image r e (some m) f z = written-image r e m f (settle (r .0) (p .1) m) z
 
-      receipt-image : (o : Option Row) → find byKey k s ≡ o → theory.received rules p o .0 ≡ 0 → doneOn (inr (receipt k p)) s (imageOf s) ≡ imageOf (put byKey k (theory.received rules p o .2) s)
+      receipt-image : (o : Option Row) → find byKey k s ≡ o → theory.received rules p o .0 .number ≡ 0 → doneOn (inr (receipt k p)) s (imageOf s) ≡ imageOf (put byKey k (theory.received rules p o .2) s)
       unfolding doneOn received
       receipt-image none e z = absurd (omega (arith, z))
       receipt-image (some r) e z = rw e (replied-image r e (find byAddress (p .0) (r .1)) refl z)
 
   -- a call that is done
-  done-image : InOrder byKey s → (c : Call) → onTable c s .0 ≡ 0 → Each Fitting (onTable c s .1) → doneOn c s (imageOf s) ≡ imageOf (onTable c s .1)
+  done-image : InOrder byKey s → (c : Call) → onTable c s .0 .number ≡ 0 → Each Fitting (onTable c s .1) → doneOn c s (imageOf s) ≡ imageOf (onTable c s .1)
   unfolding onTable theory.onTable step doneOn
   done-image order (inl n) z g = refl
   done-image order (inr (post k r)) z g = post-image order k r (find byKey k s) refl (leb 32 (length s)) refl z g
@@ -177,15 +178,18 @@ module _ (s : Rows) (few : length s ≤ 32) (fits : Each Fitting s) where
 -- ---- octets
 
 -- the table that a call leaves of an image
-pub next-image : (c : Call) (t t′ : List ℕ) (n : ℕ) → Transition c t n t′ → wellFormed (tableIn t) ≡ true → IsImage t → IsImage t′
+pub next-image : (c : Call) (t t′ : List ℕ) (v : Verdict) → Transition c t v t′ → wellFormed (tableIn t) ≡ true → IsImage t → IsImage t′
 unfolding octetsAfter
-next-image c t t′ (suc n) d w i = subst IsImage (sym (d .octets)) i
-next-image c t t′ zero d w i =
-    let s : Rows = rowsIn t in
-    let rows : rowsIn t′ ≡ onTable c s .1 = d .rows ∙ rw w in
-    let z : 0 ≡ onTable c s .0 = d .answer ∙ rw w in
-    let g : Each Fitting (onTable c s .1) = subst (Each Fitting) rows (see-fits (tableIn t′) (d .well ∙ w)) in
-    d .octets ∙ ap (doneOn c s) i ∙ done-image s (see-few (tableIn t) w) (see-fits (tableIn t) w) (rows-in-order (tableIn t) w) c (sym z) g ∙ ap imageOf (sym rows)
+next-image c t t′ v d w i = go (v .number) refl (d .octets)
+  where
+    go : (n : ℕ) → v .number ≡ n → t′ ≡ octetsAfter c n t → IsImage t′
+    go (suc n) e o = subst IsImage (sym o) i
+    go zero e o =
+        let s : Rows = rowsIn t in
+        let rows : rowsIn t′ ≡ onTable c s .1 = d .rows ∙ rw w in
+        let z : v ≡ onTable c s .0 = d .answer ∙ rw w in
+        let g : Each Fitting (onTable c s .1) = subst (Each Fitting) rows (see-fits (tableIn t′) (d .well ∙ w)) in
+        o ∙ ap (doneOn c s) i ∙ done-image s (see-few (tableIn t) w) (see-fits (tableIn t) w) (rows-in-order (tableIn t) w) c (ap (λ (u : Verdict). u .number) (sym z) ∙ e) g ∙ ap imageOf (sym rows)
 
 -- ---- the octets before the first posting
 
@@ -216,7 +220,7 @@ module _ (n : ℕ) (e : n ≡ 50944 + 4) where
 
 -- ---- a run from an image
 
-pub run-images : {t e : List ℕ} {cs : List Arguments} {xs : List ℕ} {ts : List (List ℕ)} → Run t cs xs ts e → wellFormed (tableIn t) ≡ true → IsImage t → AllImages ts × IsImage e
+pub run-images : {t e : List ℕ} {cs : List Arguments} {xs : List Verdict} {ts : List (List ℕ)} → Run t cs xs ts e → wellFormed (tableIn t) ≡ true → IsImage t → AllImages ts × IsImage e
 run-images stop w i = ((i, tt), i)
 run-images (call {t = t} {t′ = t′} {c = c} {x = x} d r) w i =
     let k = run-images r (d .well ∙ w) (next-image (callOf c) t t′ x d w i) in

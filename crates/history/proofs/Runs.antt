@@ -6,6 +6,7 @@ use mathlib.Core.List.{List, [], _∷_, map}
 use lib.ListN.{take, drop}
 use Rattle.header.specs.Rules.{all}
 use Rattle.order.specs.Calls.{Call, Rows, onTable}
+use Rattle.codec.specs.Verdict.{Verdict}
 use Rattle.calls.specs.Runs.{final, answers, states, stop, call}
 use Rattle.cells.specs.Cells.{part, many}
 use Rattle.cells.proofs.Lists.{many-count}
@@ -27,17 +28,17 @@ abbrev pub AllWell : List (List ℕ) → Type 0
 AllWell [] = Unit {0}
 AllWell (t ∷ ts) = (wellFormed (tableIn t) ≡ true) × AllWell ts
 
-abbrev pub onRows : Arguments → Rows → ℕ × Rows
+abbrev pub onRows : Arguments → Rows → Verdict × Rows
 onRows x = onTable (callOf x)
 
-pub record Went (t : List ℕ) (cs : List Arguments) (xs : List ℕ) (ts : List (List ℕ)) (e : List ℕ) : Type 0 where
+pub record Went (t : List ℕ) (cs : List Arguments) (xs : List Verdict) (ts : List (List ℕ)) (e : List ℕ) : Type 0 where
   pub answered : xs ≡ answers onRows (rowsIn t) cs
   pub rows : map rowsIn ts ≡ states onRows (rowsIn t) cs
   pub end : rowsIn e ≡ final onRows (rowsIn t) cs
   pub well : AllWell ts
   pub endWell : wellFormed (tableIn e) ≡ true
 
-pub went : {t e : List ℕ} {cs : List Arguments} {xs : List ℕ} {ts : List (List ℕ)} → Run t cs xs ts e → wellFormed (tableIn t) ≡ true → Went t cs xs ts e
+pub went : {t e : List ℕ} {cs : List Arguments} {xs : List Verdict} {ts : List (List ℕ)} → Run t cs xs ts e → wellFormed (tableIn t) ≡ true → Went t cs xs ts e
 unfolding answers states final
 went stop w = record { answered = refl; rows = refl; end = refl; well = (w, tt); endWell = w }
 went (call {t = t} {t′ = t′} {c = c} {x = x} d r) w =
@@ -58,8 +59,8 @@ unfolding octetsAfter
 same-octets c zero t h = absurd (h refl)
 same-octets c (suc n) t h = refl
 
-pub stays : (c : Call) (t t′ : List ℕ) (n : ℕ) → Transition c t n t′ → (n ≡ 0 → ⊥) → t′ ≡ t
-stays c t t′ n d h = d .octets ∙ same-octets c n t h
+pub stays : (c : Call) (t t′ : List ℕ) (v : Verdict) → Transition c t v t′ → (v .number ≡ 0 → ⊥) → t′ ≡ t
+stays c t t′ v d h = d .octets ∙ same-octets c (v .number) t h
 
 -- whatever octets hold has its cells
 rows-whole : (k : ℕ) (s : List ℕ) → WholeRows (many rowIn 1592 k s)

@@ -3,7 +3,7 @@
 use Prim.Native.Nat.{ℕ, zero, suc, _<_, _≤_}
 use mathlib.Core.Path.{_≡_, refl, ap, ap₂, sym, _∙_}
 use mathlib.Core.Bool.{Bool, true, _&&_}
-use mathlib.Core.Logic.{inr}
+use mathlib.Core.Logic.{inl, inr}
 use mathlib.Core.List.{List, _∷_, map, Forall₂, Forall₂·nil, Forall₂·cons}
 use lib.ListN.{length, take, getD, length-take}
 use lib.Seq.{getD-take, length-take-le}
@@ -23,12 +23,13 @@ use Rattle.header.specs.declared.Address.{Address as DeclaredAddress}
 use Rattle.header.specs.declared.Block.{Block}
 use Rattle.header.specs.declared.Header.{Header}
 use Rattle.header.proofs.Legal.{front-recipients, addressees-legal}
-use Rattle.writer.specs.Writing.{Writing, done, rejected, answered, checking, headerSize, fieldsFault, faultOf}
+use Rattle.codec.specs.Verdict.{Verdict, plain, whether, firstOf}
+use Rattle.writer.specs.Writing.{fieldsFault, faultOf}
 use Rattle.writer.proofs.Valid.{valid-parts}
-use Rattle.roundtrip.proofs.SameRecords.{same-checking}
+use Rattle.roundtrip.proofs.SameRecords.{same-fault}
 use Rattle.order.specs.Values.{addressOf, keyOf, keyFault}
 use Rattle.calls.specs.Operations.{post, receipt, release}
-use Rattle.order.specs.Calls.{Operation, make}
+use Rattle.order.specs.Calls.{Operation, Call, make}
 use Rattle.order.specs.Requests.{anyOf, askOf}
 use Rattle.order.specs.declared.Key.{Key as DeclaredKey}
 use Rattle.arguments.specs.Arguments.{posting, receiving, releasing, hasBlock, blockAt, asks, recipientsOf, someRecipient, oneRecipient, firstRecipient, postingKey, receiptKey, postingFault, receiptFault, named, callOf}
@@ -42,6 +43,15 @@ use Rattle.history.proofs.SameKeys.{and-same, key-check, address-same, 
 -- two refusals that agree, and behind them two that agree where there is none
 refusals-same : (f f′ g g′ : ℕ) → f ≡ f′ → (f ≡ 0 → g ≡ g′) → first f g ≡ first f′ g′
 refusals-same f f′ g g′ e h = first-same f g g′ h ∙ ap (λ (k : ℕ). first k g′) e
+
+-- the same where the first may tell a block
+verdicts-same : (f f′ : Verdict) (g g′ : ℕ) → f ≡ f′ → (f .number ≡ 0 → g ≡ g′) → firstOf f (plain g) ≡ firstOf f′ (plain g′)
+unfolding firstOf
+verdicts-same f f′ g g′ e h = go (f .number) h ∙ ap (λ (v : Verdict). firstOf v (plain g′)) e
+  where
+    go : (n : ℕ) → (n ≡ 0 → g ≡ g′) → whether n (plain g) f ≡ whether n (plain g′) f
+    go zero k = ap plain (k refl)
+    go (suc n) k = refl
 
 -- two tests' refusals
 tests-same : (b c : Bool) (f : ℕ) → b ≡ c → pick b 0 f ≡ pick c 0 f
@@ -59,21 +69,6 @@ cell-same S l m j k i d e h p r =
     let a : getD (take j l) i d ≡ getD l i d = getD-take j l i d p in
     let b : getD (take k m) i d ≡ getD m i d = getD-take k m i d (omega arith) in
     rw (a, b) at s
-
--- ---- the record's own refusal
-
-answer-number : Writing → ℕ
-answer-number (done n) = 0
-answer-number (rejected f p) = f
-
-number-of : (k n : ℕ) → answer-number (answered k n) ≡ k
-unfolding answer-number answered
-number-of zero n = refl
-number-of (suc k) n = refl
-
-fault-same : (x y : Header) → Same x y → (count : ℕ) → faultOf x count ≡ faultOf y count
-unfolding checking
-fault-same x y s count = sym (number-of (faultOf x count) (headerSize x)) ∙ ap answer-number (same-checking x y s count) ∙ number-of (faultOf y count) (headerSize y)
 
 -- ---- a legal record's arrays
 
@@ -112,9 +107,12 @@ addresses-same (Forall₂·cons {a = x} {b = y} s r) h = ap₂ _∷_ (address-sa
 
 -- ---- calls
 
-named-same : (f f′ : ℕ) (d d′ : Operation) → f ≡ f′ → (f ≡ 0 → d ≡ d′) → named f d ≡ named f′ d′
-named-same zero f′ d d′ e h = rw (← e) (ap inr (h refl))
-named-same (suc f) f′ d d′ e h = rw (← e)
+named-same : (f f′ : Verdict) (d d′ : Operation) → f ≡ f′ → (f .number ≡ 0 → d ≡ d′) → named f d ≡ named f′ d′
+named-same f f′ d d′ e h = go (f .number) h ∙ ap (λ (v : Verdict). named v d′) e
+  where
+    go : (n : ℕ) → (n ≡ 0 → d ≡ d′) → _≡_ {A = Call} (whether n (inr d) (inl f)) (whether n (inr d′) (inl f))
+    go zero g = ap inr (g refl)
+    go (suc n) g = refl
 
 fine : (b : Bool) (f : ℕ) → 0 < f → pick b 0 f ≡ 0 → b ≡ true
 fine b f l e = fine-legal b 0 f l e .0
@@ -175,7 +173,7 @@ module _ (x y : Header) (s : Same x y) where
     posting-fault-same : postingFault x n count ≡ postingFault y n count
     unfolding postingFault
     posting-fault-same =
-        refusals-same _ _ _ _ (fault-same x y s count) (λ z.
+        verdicts-same _ _ _ _ (same-fault x y s count) (λ z.
         refusals-same _ _ _ _ (tests-same (hasBlock x n) (hasBlock y n) 29 (has-same n)) (λ t.
         let b = block-same (valid-parts x count z .fields) n (fine (hasBlock x n) 29 (lit< tt) t) in
         refusals-same _ _ _ _ (tests-same (asks (blockAt x n)) (asks (blockAt y n)) 20 (asks-same (blockAt x n) (blockAt y n) b)) (λ u. tests-same (someRecipient x) (someRecipient y) 21 some-same)))
@@ -183,14 +181,14 @@ module _ (x y : Header) (s : Same x y) where
     receipt-fault-same : receiptFault x n count ≡ receiptFault y n count
     unfolding receiptFault
     receipt-fault-same =
-        refusals-same _ _ _ _ (fault-same x y s count) (λ z.
+        verdicts-same _ _ _ _ (same-fault x y s count) (λ z.
         refusals-same _ _ _ _ (tests-same (hasBlock x n) (hasBlock y n) 29 (has-same n)) (λ t.
         let b = block-same (valid-parts x count z .fields) n (fine (hasBlock x n) 29 (lit< tt) t) in
         refusals-same _ _ _ _ (tests-same (blockAt x n .response .present) (blockAt y n .response .present) 24 (response-same (blockAt x n) (blockAt y n) b)) (λ u.
         tests-same (x .front .originator .present && oneRecipient x) (y .front .originator .present && oneRecipient y) 25 (ap₂ _&&_ from-there one-same))))
 
     -- what a posting names
-    module _ (e : postingFault x n count ≡ 0) where
+    module _ (e : postingFault x n count .number ≡ 0) where
       p : Posts x n count
       p = posts x n count e
 
@@ -221,7 +219,7 @@ module _ (x y : Header) (s : Same x y) where
           ap (address .check) (getD-take k l i noAddress j) ∙ recipient-legal x (p .valid .fields) there i j))
 
     -- what a receipt names
-    module _ (e : receiptFault x n count ≡ 0) where
+    module _ (e : receiptFault x n count .number ≡ 0) where
       a : Answers x n count
       a = answers x n count e
 
@@ -263,4 +261,4 @@ module _ (x y : Header) (s : Same x y) where
 -- releases by keys that are the same are one call
 pub same-releasing : (j k : DeclaredKey) → sameKey j k → callOf (releasing j) ≡ callOf (releasing k)
 unfolding callOf
-same-releasing j k s = named-same _ _ _ _ (key-check j k s) (λ e. ap release (key-same j k s e))
+same-releasing j k s = named-same _ _ _ _ (ap plain (key-check j k s)) (λ e. ap release (key-same j k s e))

@@ -13,6 +13,7 @@ use native.Mathlib.Omega.{arith}
 use Rattle.codec.specs.Answer.{pick}
 use Rattle.codec.proofs.ListLaws.{length-map}
 use Rattle.header.specs.Table.{address}
+use Rattle.codec.specs.Verdict.{plain}
 use Rattle.header.specs.Rules.{all}
 use Rattle.header.specs.declared.Requests.{Requests}
 use Rattle.order.specs.Values.{Address, addressOf, Key, keyOf, byAddress, byKey, keyFault}
@@ -135,7 +136,7 @@ module _ (x y : Table) (s : SameTable x y) where
 
   -- each call answers the same
   pub same-answer : (a : Arguments) → answerOn a x ≡ answerOn a y
-  same-answer a = go (wellFormed x) _ _ 30 (λ e. ap (λ r. onTable (callOf a) r .0) (same-see e)) ∙ ap (λ b. pick b (onTable (callOf a) (see y) .0) 30) same-well
+  same-answer a = go (wellFormed x) _ _ (plain 30) (λ e. ap (λ r. onTable (callOf a) r .0) (same-see e)) ∙ ap (λ b. pick b (onTable (callOf a) (see y) .0) (plain 30)) same-well
 
   -- and leaves the same rows, where the table is well formed
   pub same-rows : (a : Arguments) → wellFormed x ≡ true → rowsAfter a x ≡ rowsAfter a y
@@ -143,7 +144,7 @@ module _ (x y : Table) (s : SameTable x y) where
 
   same-listing : (n room : ℕ) → listing x n room ≡ listing y n room
   unfolding listing
-  same-listing n room = go (wellFormed x) _ _ (rejected 30 0) (λ e. ap (λ r. listingOf r n room) (same-see e)) ∙ ap (λ b. pick b (listingOf (see y) n room) (rejected 30 0)) same-well
+  same-listing n room = go (wellFormed x) _ _ (rejected 30 0 0) (λ e. ap (λ r. listingOf r n room) (same-see e)) ∙ ap (λ b. pick b (listingOf (see y) n room) (rejected 30 0 0)) same-well
 
   output-same : (b : Bool) → wellFormed x ≡ b → (n : ℕ) (out : List ℕ) → outputAfter (see x) n (listing x n (length out)) out ≡ outputAfter (see y) n (listing y n (length out)) out
   unfolding listing outputAfter

@@ -1,21 +1,24 @@
 -- The plain sheet of document 01's history, fed with the calls' arguments, is the one that the theory of the calls knows, fed with what the calls name; and its rows in key
 -- order are those that the theory sorts. Assumes nothing.
 use Prim.Native.Nat.{ℕ, zero, suc, Ordering, Ordering·lt as lt, Ordering·eq as eq, Ordering·gt as gt}
-use mathlib.Core.Path.{_≡_, refl, ap, _∙_}
+use mathlib.Core.Path.{_≡_, refl, ap, sym, _∙_}
 use mathlib.Core.Bool.{Bool, true, false, cond, _&&_}
 use mathlib.Core.List.{List, [], _∷_, _++_, map}
+use mathlib.Core.Logic.{inr}
 use mathlib.Core.Option.{Option, none, some}
 use lib.ListN.{length}
 use lib.Dec.{leb}
 use Rattle.codec.specs.Answer.{pick}
 use Rattle.codec.specs.Codec.{first}
+use Rattle.codec.specs.Verdict.{Verdict, inBlock, plain, fine, firstOf}
+use Rattle.codec.proofs.Verdicts.{first-assoc, first-plain}
 use Rattle.calls.specs.Order.{choose}
 use Rattle.order.specs.Values.{Address, byAddress, Key, keyOf, byKey, keyFault}
 use Rattle.calls.specs.Keyed.{find, put, alter, without, sort}
 use Rattle.order.specs.Requests.{Ask, Mark, blank, anyOf, openTo, settle}
 use Rattle.calls.specs.Operations as operations
 use Rattle.calls.specs.Operations.{post, receipt, release}
-use Rattle.order.specs.Calls.{Row, Rows, make, reply, written, marked, rules}
+use Rattle.order.specs.Calls.{Operation, Row, Rows, make, reply, written, marked, rules}
 use Rattle.order.specs.Sheet as theory
 use Rattle.writer.specs.Writing.{faultOf}
 use Rattle.arguments.specs.Arguments.{Arguments, posting, receiving, releasing, hasBlock, blockAt, asks, someRecipient, oneRecipient, postingFault, receiptFault, named, callOf}
@@ -89,12 +92,17 @@ in-key-order (x ∷ s) = placed-is x (inKeyOrder s) ∙ ap (put byKey (x .0) (so
 -- ---- the calls
 
 -- the refusals that the arguments alone decide, taken together, come before those that look at the sheet
-together : (a b c d : ℕ) (fs : List ℕ) → refusal (a ∷ b ∷ c ∷ d ∷ fs) ≡ first (first a (first b (first c d))) (refusal fs)
+three : (b c d : ℕ) (fs : List ℕ) → refusal (b ∷ c ∷ d ∷ fs) ≡ first (first b (first c d)) (refusal fs)
 unfolding first refusal
-together (suc a) b c d fs = refl
-together zero (suc b) c d fs = refl
-together zero zero (suc c) d fs = refl
-together zero zero zero d fs = refl
+three (suc b) c d fs = refl
+three zero (suc c) d fs = refl
+three zero zero d fs = refl
+
+together : (f : Verdict) (b c d : ℕ) (fs : List ℕ) → firstOf f (plain (refusal (b ∷ c ∷ d ∷ fs))) ≡ firstOf (firstOf f (plain (first b (first c d)))) (plain (refusal fs))
+together f b c d fs =
+    ap (λ (n : ℕ). firstOf f (plain n)) (three b c d fs)
+    ∙ ap (firstOf f) (sym (first-plain (first b (first c d)) (refusal fs)))
+    ∙ sym (first-assoc f (plain (first b (first c d))) (plain (refusal fs)))
 
 alone : (f : ℕ) → first f 0 ≡ f
 unfolding first
@@ -102,22 +110,32 @@ alone zero = refl
 alone (suc f) = refl
 
 -- the answer and the rows, where nothing is counted
-abbrev rowsOf : ℕ × (Rows × Unit {0}) → ℕ × Rows
+abbrev rowsOf : Verdict × (Rows × Unit {0}) → Verdict × Rows
 rowsOf x = (x .0, x .1 .0)
 
+-- what the arguments refuse is the answer; otherwise what the sheet says
+refused-or : (v : Verdict) (n : ℕ) (d : Operation) (s after : Sheet) → ruled (plain n) s after ≡ theory.sheet (inr d) s → ruled (firstOf v (plain n)) s after ≡ theory.sheet (named v d) s
+unfolding firstOf theory.sheet operations.sheet
+refused-or v n d s after e = go (v .number) (v .block)
+  where
+    go : (k b : ℕ) → ruled (firstOf (inBlock b k) (plain n)) s after ≡ theory.sheet (named (inBlock b k) d) s
+    go zero b = e
+    go (suc k) b = refl
+
 module _ (k : Key) (s : Sheet) where
-  posts : (fault : ℕ) (a : Ask) (rs : List Address) → ruled (first fault (refusal (notHeld (rowWith k s) ∷ pick (leb 32 (length s)) 23 0 ∷ []))) s (s ++ (k, (a, newAnswers rs)) ∷ []) ≡ theory.sheet (named fault (post k (make a rs))) s
+  posts : (a : Ask) (rs : List Address) → ruled (plain (refusal (notHeld (rowWith k s) ∷ pick (leb 32 (length s)) 23 0 ∷ []))) s (s ++ (k, (a, newAnswers rs)) ∷ []) ≡ theory.sheet (inr (post k (make a rs))) s
   unfolding first refusal theory.sheet operations.sheet operations.posting make
-  posts (suc f) a rs = refl
-  posts zero a rs = rw (row-with k s, new-answers rs) (go (find byKey k s) (leb 32 (length s)))
+  posts a rs = rw (row-with k s, new-answers rs) (go (find byKey k s) (leb 32 (length s)))
     where
-      go : (o : Option Row) (b : Bool) → ruled (refusal (notHeld o ∷ pick b 23 0 ∷ [])) s (s ++ (k, (a, sort byAddress (map (λ r. (r, blank)) rs))) ∷ []) ≡ rowsOf (operations.posting rules k (make a rs) (s, tt) o (cond b (some 23) none))
+      go : (o : Option Row) (b : Bool) → ruled (plain (refusal (notHeld o ∷ pick b 23 0 ∷ []))) s (s ++ (k, (a, sort byAddress (map (λ r. (r, blank)) rs))) ∷ []) ≡ rowsOf (operations.posting rules k (make a rs) (s, tt) o (cond b (some (plain 23)) none))
       go (some r) b = refl
       go none true = refl
       go none false = refl
 
-  posting-is : (f block asks to : ℕ) (a : Ask) (rs : List Address) → ruled (refusal (f ∷ block ∷ asks ∷ to ∷ notHeld (rowWith k s) ∷ pick (leb 32 (length s)) 23 0 ∷ [])) s (s ++ (k, (a, newAnswers rs)) ∷ []) ≡ theory.sheet (named (first f (first block (first asks to))) (post k (make a rs))) s
-  posting-is f block asks to a rs = ap (λ (n : ℕ). ruled n s (s ++ (k, (a, newAnswers rs)) ∷ [])) (together f block asks to (notHeld (rowWith k s) ∷ pick (leb 32 (length s)) 23 0 ∷ [])) ∙ posts (first f (first block (first asks to))) a rs
+  posting-is : (f : Verdict) (block asks to : ℕ) (a : Ask) (rs : List Address) → ruled (firstOf f (plain (refusal (block ∷ asks ∷ to ∷ notHeld (rowWith k s) ∷ pick (leb 32 (length s)) 23 0 ∷ [])))) s (s ++ (k, (a, newAnswers rs)) ∷ []) ≡ theory.sheet (named (firstOf f (plain (first block (first asks to)))) (post k (make a rs))) s
+  posting-is f block asks to a rs =
+      ap (λ (v : Verdict). ruled v s (s ++ (k, (a, newAnswers rs)) ∷ [])) (together f block asks to (notHeld (rowWith k s) ∷ pick (leb 32 (length s)) 23 0 ∷ []))
+      ∙ refused-or (firstOf f (plain (first block (first asks to)))) _ (post k (make a rs)) s _ (posts a rs)
 
   -- the code is written in the row that is found, at the recipient that is found
   module _ (w : Address) (c : ℕ) where
@@ -127,38 +145,39 @@ module _ (k : Key) (s : Sheet) where
         ∙ alter-found byKey k (coding w c) s r e
         ∙ ap (λ (l : Answers). alter byKey k (λ o. (r .0, l)) s) (coded-at w c (r .0) (r .1) ∙ alter-found byAddress w (coded (r .0) c) (r .1) m d)
 
-    marked-is : (r : Row) (m : Mark) → find byKey k s ≡ some r → find byAddress w (r .1) ≡ some m → ruled (pick (anyOf (openTo (r .0) c m)) 0 28) s (answered k w c s) ≡ rowsOf (operations.writing rules k (s, tt) (marked w r (reply (r .0) c (some m))))
+    marked-is : (r : Row) (m : Mark) → find byKey k s ≡ some r → find byAddress w (r .1) ≡ some m → ruled (plain (pick (anyOf (openTo (r .0) c m)) 0 28)) s (answered k w c s) ≡ rowsOf (operations.writing rules k (s, tt) (marked w r (reply (r .0) c (some m))))
     unfolding settle coded operations.writing
     marked-is r m e d = go (anyOf (openTo (r .0) c m)) (written-is r m e d)
       where
-        go : (b : Bool) → answered k w c s ≡ alter byKey k (λ o. (r .0, alter byAddress w (λ p. coded (r .0) c m) (r .1))) s → ruled (pick b 0 28) s (answered k w c s) ≡ rowsOf (operations.writing rules k (s, tt) (marked w r (written (cond b (some (coded (r .0) c m)) none))))
-        go true q = ap (λ (t : Sheet). (0, t)) q
+        go : (b : Bool) → answered k w c s ≡ alter byKey k (λ o. (r .0, alter byAddress w (λ p. coded (r .0) c m) (r .1))) s → ruled (plain (pick b 0 28)) s (answered k w c s) ≡ rowsOf (operations.writing rules k (s, tt) (marked w r (written (cond b (some (coded (r .0) c m)) none))))
+        go true q = ap (λ (t : Sheet). (fine, t)) q
         go false q = refl
 
-    there-is : (r : Row) (o : Option Mark) → find byKey k s ≡ some r → find byAddress w (r .1) ≡ o → ruled (openThere (r .0) c o) s (answered k w c s) ≡ rowsOf (operations.writing rules k (s, tt) (marked w r (reply (r .0) c o)))
+    there-is : (r : Row) (o : Option Mark) → find byKey k s ≡ some r → find byAddress w (r .1) ≡ o → ruled (plain (openThere (r .0) c o)) s (answered k w c s) ≡ rowsOf (operations.writing rules k (s, tt) (marked w r (reply (r .0) c o)))
     unfolding operations.writing
     there-is r none e d = refl
     there-is r (some m) e d = marked-is r m e d
 
-    answer-is : (o : Option Row) → find byKey k s ≡ o → ruled (mayAnswer w c o) s (answered k w c s) ≡ rowsOf (operations.receiving rules k (w, c) (s, tt) o)
+    answer-is : (o : Option Row) → find byKey k s ≡ o → ruled (plain (mayAnswer w c o)) s (answered k w c s) ≡ rowsOf (operations.receiving rules k (w, c) (s, tt) o)
     unfolding operations.receiving
     answer-is none e = refl
     answer-is (some r) e = rw (answers-of w (r .1)) (there-is r (find byAddress w (r .1)) e refl)
 
-    receives : (fault : ℕ) → ruled (first fault (refusal (mayAnswer w c (rowWith k s) ∷ []))) s (answered k w c s) ≡ theory.sheet (named fault (receipt k (w, c))) s
-    unfolding first refusal theory.sheet operations.sheet
-    receives (suc f) = refl
-    receives zero = rw (row-with k s, alone (mayAnswer w c (find byKey k s))) (answer-is (find byKey k s) refl)
+    receives : ruled (plain (refusal (mayAnswer w c (rowWith k s) ∷ []))) s (answered k w c s) ≡ theory.sheet (inr (receipt k (w, c))) s
+    unfolding refusal theory.sheet operations.sheet
+    receives = rw (row-with k s, alone (mayAnswer w c (find byKey k s))) (answer-is (find byKey k s) refl)
 
-    receiving-is : (f block answers one : ℕ) → ruled (refusal (f ∷ block ∷ answers ∷ one ∷ mayAnswer w c (rowWith k s) ∷ [])) s (answered k w c s) ≡ theory.sheet (named (first f (first block (first answers one))) (receipt k (w, c))) s
-    receiving-is f block answers one = ap (λ (n : ℕ). ruled n s (answered k w c s)) (together f block answers one (mayAnswer w c (rowWith k s) ∷ [])) ∙ receives (first f (first block (first answers one)))
+    receiving-is : (f : Verdict) (block answers one : ℕ) → ruled (firstOf f (plain (refusal (block ∷ answers ∷ one ∷ mayAnswer w c (rowWith k s) ∷ [])))) s (answered k w c s) ≡ theory.sheet (named (firstOf f (plain (first block (first answers one)))) (receipt k (w, c))) s
+    receiving-is f block answers one =
+        ap (λ (v : Verdict). ruled v s (answered k w c s)) (together f block answers one (mayAnswer w c (rowWith k s) ∷ []))
+        ∙ refused-or (firstOf f (plain (first block (first answers one)))) _ (receipt k (w, c)) s _ receives
 
-  releasing-is : (fault : ℕ) → ruled (refusal (fault ∷ someHeld (rowWith k s) ∷ [])) s (takenOut k s) ≡ theory.sheet (named fault (release k)) s
+  releasing-is : (fault : ℕ) → ruled (plain (refusal (fault ∷ someHeld (rowWith k s) ∷ []))) s (takenOut k s) ≡ theory.sheet (named (plain fault) (release k)) s
   unfolding first refusal theory.sheet operations.sheet operations.releasing
   releasing-is (suc f) = refl
   releasing-is zero = rw (row-with k s, taken-out k s) (go (find byKey k s))
     where
-      go : (o : Option Row) → ruled (refusal (someHeld o ∷ [])) s (without byKey k s) ≡ rowsOf (operations.releasing rules k (s, tt) o)
+      go : (o : Option Row) → ruled (plain (refusal (someHeld o ∷ []))) s (without byKey k s) ≡ rowsOf (operations.releasing rules k (s, tt) o)
       go none = refl
       go (some r) = refl
 

@@ -4,6 +4,7 @@ use mathlib.Core.Path.{_≡_}
 use mathlib.Core.List.{List}
 use mathlib.Core.Option.{some}
 use lib.ListN.{length}
+use Rattle.codec.specs.Verdict.{Verdict}
 use Rattle.header.specs.declared.Header.{Header}
 use Rattle.order.specs.Values.{Address, Key}
 use Rattle.calls.specs.Runs.{Ran}
@@ -16,8 +17,8 @@ use Rattle.listing.specs.Listing.{Listing, listing, listingOf, outputAfter}
 
 -- a run of the calls from the table with the octets t: their answers, the tables' octets before the first call and after each, and the last table's. Each step is
 -- what the contracts of `post`, `receipt` and `release` promise
-abbrev pub Run : List ℕ → List Arguments → List ℕ → List (List ℕ) → List ℕ → Type 0
-Run = Ran (λ a t n t′. Transition (callOf a) t n t′)
+abbrev pub Run : List ℕ → List Arguments → List Verdict → List (List ℕ) → List ℕ → Type 0
+Run = Ran (λ a t v t′. Transition (callOf a) t v t′)
 
 -- what the listing's call answers and leaves in the output, for any row number and output: of a table's octets, as its contract promises, and of the sheet's rows
 abbrev pub tableListing : List ℕ → ℕ → List ℕ → Listing × List ℕ

@@ -1,6 +1,6 @@
 -- Document 01's history: a plain sheet of rows in the order of their posting, that takes calls one after the other. It is fed the calls' arguments alone.
--- Each call has its refusals in their order, the first that applies is the answer, and a refused call changes nothing; 0 is done.
-use Prim.Native.Nat.{ℕ, zero, suc}
+-- Each call has its refusals in their order, the first that applies is the answer, and a refused call changes nothing. Only the record's own refusals may tell a block.
+use Prim.Native.Nat.{ℕ}
 use mathlib.Core.Bool.{Bool, true, false, cond, _&&_}
 use mathlib.Core.List.{List, [], _∷_, _++_, map}
 use mathlib.Core.Option.{Option, none, some}
@@ -8,6 +8,7 @@ use lib.ListN.{length}
 use lib.Dec.{leb, eqb}
 use Rattle.codec.specs.Answer.{pick}
 use Rattle.codec.specs.Codec.{first}
+use Rattle.codec.specs.Verdict.{Verdict, plain, fine, whether, firstOf}
 use Rattle.writer.specs.Writing.{faultOf}
 use Rattle.calls.specs.Order.{choose}
 use Rattle.order.specs.Values.{Address, urn, name, addressOf, byAddress, Key, keyOf, byKey, keyFault}
@@ -120,21 +121,22 @@ takenOut k (x ∷ s) = cond (sameKey k (x .0)) (takenOut k s) (x ∷ takenOut k 
 -- ---- the calls
 
 -- the answer, and the sheet as it was or as it is afterwards
-abbrev pub ruled : ℕ → Sheet → Sheet → ℕ × Sheet
-ruled zero before after = (0, after)
-ruled (suc f) before after = (suc f, before)
+abbrev pub ruled : Verdict → Sheet → Sheet → Verdict × Sheet
+ruled v before after = whether (v .number) (fine, after) (v, before)
 
 -- the first of these that applies; 0 where none does
 unfoldable pub refusal : List ℕ → ℕ
 refusal [] = 0
 refusal (f ∷ fs) = first f (refusal fs)
 
-unfoldable pub sheet : Arguments → Sheet → ℕ × Sheet
+unfoldable pub sheet : Arguments → Sheet → Verdict × Sheet
 -- the record's own refusals, by the writer's checks; 29: no such block; 20: nothing is asked; 21: no recipient; 22: the key is held; 23: all 32 rows are held
 sheet (posting h n count) s =
     let b = blockAt h n in
     let k = keyOf (postingKey h b) in
-    ruled (refusal (faultOf h count ∷ pick (hasBlock h n) 0 29 ∷ pick (asks b) 0 20 ∷ pick (someRecipient h) 0 21 ∷ notHeld (rowWith k s) ∷ pick (leb 32 (length s)) 23 0 ∷ []))
+    ruled
+    (firstOf (faultOf h count)
+    (plain (refusal (pick (hasBlock h n) 0 29 ∷ pick (asks b) 0 20 ∷ pick (someRecipient h) 0 21 ∷ notHeld (rowWith k s) ∷ pick (leb 32 (length s)) 23 0 ∷ []))))
     s (s ++ (k, (askOf (b .times .requests .requests), newAnswers (map addressOf (recipientsOf h)))) ∷ [])
 -- the record's own refusals; 29; 24: no G8; 25: G1 is absent, or G2 has no entry or several; then 26, 27 or 28
 sheet (receiving h n count) s =
@@ -142,10 +144,12 @@ sheet (receiving h n count) s =
     let k = keyOf (receiptKey h b) in
     let w = addressOf (h .front .originator .address) in
     let c = b .response .response .compliance .code in
-    ruled (refusal (faultOf h count ∷ pick (hasBlock h n) 0 29 ∷ pick (b .response .present) 0 24 ∷ pick (h .front .originator .present && oneRecipient h) 0 25 ∷ mayAnswer w c (rowWith k s) ∷ []))
+    ruled
+    (firstOf (faultOf h count)
+    (plain (refusal (pick (hasBlock h n) 0 29 ∷ pick (b .response .present) 0 24 ∷ pick (h .front .originator .present && oneRecipient h) 0 25 ∷ mayAnswer w c (rowWith k s) ∷ []))))
     s (answered k w c s)
 -- the key's own refusals; 26
-sheet (releasing k) s = ruled (refusal (keyFault k ∷ someHeld (rowWith (keyOf k) s) ∷ [])) s (takenOut (keyOf k) s)
+sheet (releasing k) s = ruled (plain (refusal (keyFault k ∷ someHeld (rowWith (keyOf k) s) ∷ []))) s (takenOut (keyOf k) s)
 
 -- ---- the rows in key order, as the listing has them
 

@@ -1,12 +1,16 @@
 // Datagrams at the limits of document 01, built field by field and read. Each case is one line: its name,
-// then `accepted` with the octets of the header and of the user data, or `refused` with the number and the
-// place. The file stdout has what each has to be, counted from document 01; the count stands beside the
-// case here, and the places of a header's fields beside the function of `headers` that builds it.
+// then `accepted` with the octets of the header and of the user data, or `refused` with the number, the place
+// and, where the refusal is about one, the block. The file stdout has what each has to be, counted from the
+// papers; the count stands beside the case, and the places of a header's fields beside the function of
+// `headers` that builds it.
 mod draft;
 mod groups;
 mod headers;
+mod several;
 mod summary;
+mod tell;
 mod versions;
+mod which;
 
 use draft::Draft;
 use groups::answer;
@@ -34,82 +38,15 @@ use headers::referring;
 use headers::several;
 use headers::to_name;
 use headers::to_name_and_urn;
-use libc::STDOUT_FILENO;
-use summary::Summary;
+use tell::cut;
+use tell::tell;
+use tell::with_data;
 use versions::every_group;
-
-fn print(text: &[u8]) {
-    io::write_all(STDOUT_FILENO, text);
-}
-
-// A value that is not the usual one, with its label.
-fn part(label: &[u8], n: u64, usual: u64) {
-    if n != usual {
-        print(label);
-        io::print_decimal(STDOUT_FILENO, n);
-    }
-}
-
-fn print_refused(s: Summary) {
-    print(b": refused ");
-    io::print_decimal(STDOUT_FILENO, s.number);
-    print(b" at ");
-    io::print_decimal(STDOUT_FILENO, s.place);
-    print(b"\n");
-}
-
-fn print_accepted(s: Summary) {
-    print(b": accepted ");
-    io::print_decimal(STDOUT_FILENO, s.header);
-    print(b" ");
-    io::print_decimal(STDOUT_FILENO, s.data);
-    part(b" name ", s.name, 0);
-    part(b" recipients ", s.recipients, 0);
-    part(b" information ", s.information, 0);
-    part(b" blocks ", s.blocks, 1);
-    part(b" references ", s.references, 0);
-    part(b" standard version ", s.standard, 16);
-    print(b"\n");
-}
-
-// Reads a datagram and prints its line.
-fn tell(name: &[u8], datagram: &[u8]) {
-    print(name);
-    let s = summary::summarise(datagram);
-    if 0 < s.number {
-        print_refused(s);
-        return;
-    }
-    print_accepted(s);
-}
-
-fn tell_first(name: &[u8], octets: [u8; 256], n: usize) {
-    if n <= 256 {
-        tell(name, &octets[..n]);
-    }
-}
-
-// The draft cut, or continued by zeros, to so many octets.
-fn cut(name: &[u8], d: Draft, octets: usize) {
-    let buffer = d.octets;
-    tell_first(name, buffer, octets);
-}
-
-// The draft with its fill bits and so many octets of user data.
-fn with_data(name: &[u8], d: Draft, data: usize) {
-    let buffer = d.octets;
-    let header = bits::whole_octets(d.end).0;
-    if header <= 256 {
-        if data <= 256 {
-            tell_first(name, buffer, header + data);
-        }
-    }
-}
 
 // Document 01's octets A. The fields end with G10's indicator at 32; the fill bits are 33 to 39.
 fn octets_a() {
     tell(b"A and an octet", b"\x02\x08\x00\x00\x00\x07");
-    // A block without G8 owns at least 1 octet.
+    // A block without G8 owns at least 1 octet: 53.
     tell(b"A alone", b"\x02\x08\x00\x00\x00");
     // Fill bits come before sizes: 9, though the data is missing.
     tell(b"A ending in 02, alone", b"\x02\x08\x00\x00\x02");
@@ -128,7 +65,7 @@ fn octets_b_and_c() {
     tell(b"B and an octet", b);
     let c = b"\xE2\x01\x00\x00\x7D\x06\x00\x00\x01\x00\x08\xBE\x01\xB7\x5B\x00";
     tell(b"C alone", c);
-    // A block with G8 owns no octet.
+    // A block with G8 owns no octet: 54.
     let c = b"\xE2\x01\x00\x00\x7D\x06\x00\x00\x01\x00\x08\xBE\x01\xB7\x5B\x00\x01";
     tell(b"C and an octet", c);
 }
@@ -347,7 +284,8 @@ fn short_texts() {
     cut(b"cut 6 bits behind 64 characters", to_name(64), 58);
 }
 
-// Rules (a) and (b). A broken rule is 8 at place 0; beside it stands a header that keeps the rule.
+// Rules (a) and (b), 41 and 42. A broken rule is told at place 0, with the block; beside it stands a header that
+// keeps the rule.
 fn rules_a_and_b() {
     with_data(b"(a) G7 without G1", asking(bare(), 0), 1);
     with_data(b"(a) G7 with G1", asking(from_urn(), 0), 1);
@@ -361,7 +299,7 @@ fn rules_a_and_b() {
     with_data(b"(b) G8 with G7", answer(d.number(3, 0), 1).absent(5), 0);
 }
 
-// Rules (c), (d) and (e).
+// Rules (c), (d) and (e), 43 to 45.
 fn rules_c_to_e() {
     with_data(b"(c) UMF 1 with G4", identified(1), 1);
     with_data(b"(c) UMF 2 with G4", identified(2), 1);
@@ -373,8 +311,8 @@ fn rules_c_to_e() {
     with_data(b"(e) G8 with compression", answer(d, 1).absent(5), 0);
 }
 
-// Rule (f): several blocks want the header size and every message size. Two blocks that have them stand
-// among the lists above.
+// Rule (f), 46: several blocks want the header size, which is told with no block, and every message size. Two
+// blocks that have them stand among the lists above.
 fn rule_f() {
     // 9 + 44 * 2 = 97 bits in 13 octets.
     with_data(b"(f) no header size", blocks(bare(), 2), 2);
@@ -390,7 +328,7 @@ fn rule_f() {
     );
 }
 
-// Rules (g) and (h).
+// Rules (g) and (h), 47 and 48.
 fn rules_g_and_h() {
     // CANTCO 68 with reason 69 to 71, four absent: 76 bits in 10 octets.
     with_data(
@@ -410,7 +348,8 @@ fn rules_g_and_h() {
     with_data(b"(h) R/C 2 with CANTPRO", d.absent(3), 0);
 }
 
-// Rule (i): a request and no G5, for each of the three bits; octets B have both. Then the order of 9, 8, 10.
+// Rule (i), 49: a request and no G5, for each of the three bits; octets B have both. Then 9 before a rule, and a
+// rule before a size.
 fn rule_i_and_order() {
     with_data(b"(i) machine request", asking(from_urn(), 1), 1);
     with_data(b"(i) acknowledge request", asking(from_urn(), 2), 1);
@@ -420,8 +359,7 @@ fn rule_i_and_order() {
     with_data(b"(a) and no data", asking(bare(), 0), 0);
 }
 
-// A wrong size is 10 at place 0. A message size is what the block owns, and a block without G8 owns
-// something.
+// A message size is what the block owns (52), and a block without G8 owns something (53).
 fn message_sizes() {
     with_data(b"message size 1 of 1", owning(1), 1);
     with_data(b"message size 2 of 1", owning(2), 1);
@@ -429,13 +367,13 @@ fn message_sizes() {
     with_data(b"message size 0 of 0", owning(0), 0);
 }
 
-// A header size is the header's octets: 25 + 24 = 49 bits in 7.
+// A header size is the header's octets (51): 25 + 24 = 49 bits in 7.
 fn header_sizes() {
     with_data(b"header size 7 of 7", block(measured(7)), 1);
     with_data(b"header size 6 of 7", block(measured(6)), 1);
     with_data(b"header size 8 of 7", block(measured(8)), 1);
     with_data(b"2 blocks of 1 in 3", several(15, 2), 3);
-    // The sum is right, but the first block owns nothing.
+    // The sum is right, but the first block owns nothing: 53.
     let d = sized(opening(measured(15), 1, 2), 0).absent(6);
     with_data(
         b"2 blocks of 0 and 2",
@@ -444,7 +382,7 @@ fn header_sizes() {
     );
 }
 
-// A block with G8 owns nothing; UMF 4 needs data, so the two together are refused at any size.
+// A block with G8 owns nothing (54); UMF 4 needs data, so the two together are 53 at any size.
 fn receipt_sizes() {
     with_data(b"data behind G8", receipt(2, 1).absent(5), 1);
     with_data(b"UMF 4 with G8", receipt(4, 1).absent(5), 0);
@@ -491,5 +429,13 @@ fn main() {
     message_sizes();
     header_sizes();
     receipt_sizes();
+    which::rule_behind_rule();
+    which::rule_twice();
+    which::missing_header_size();
+    which::missing_message_size();
+    which::other_refusals();
+    which::sizes_in_order();
+    which::bodies();
+    which::format_4();
     lengths();
 }

@@ -1,10 +1,11 @@
 // What the cases show of a reading.
 ghost use mathlib.Core.Path.{_≡_};
-ghost use Prim.Native.Nat.{_≤_};
 ghost use lib.ListN.{length};
 ghost use Rattle.record_octets.specs.Record.{sizeOfOptionalAddresses, sizeOfHeader};
 use cells::load_word;
+use codec::BlockNumber;
 use codec::Fault;
+use codec::fault_number;
 use leaves::numbers::load_optional;
 use leaves::setting::block_count;
 use reader::Outcome;
@@ -23,13 +24,14 @@ use record_octets::in_optional_text;
 use record_octets::in_references;
 use record_octets::in_text;
 
-// The refusal's number and place, number 0 where the datagram is accepted; the octets of the header and
-// of the user data; the length of the originator's name, and the counts of the lists, the references those
-// of the first block; and its standard version, 16 where it has none. Of a refused datagram only the first
-// two mean anything.
+// The refusal's number, place and block, number 0 where the datagram is accepted; the octets of the header
+// and of the user data; the length of the originator's name, and the counts of the lists, the references
+// those of the first block; and its standard version, 16 where it has none. Of a refused datagram only the
+// first three mean anything.
 pub struct Summary {
     pub number: u64,
     pub place: u64,
+    pub block: u64,
     pub header: u64,
     pub data: u64,
     pub name: u64,
@@ -38,26 +40,6 @@ pub struct Summary {
     pub blocks: u64,
     pub references: u64,
     pub standard: u64,
-}
-
-// Document 01's number of a fault.
-fn number_of(fault: Fault) -> u64
-    ensures { λ r. ⌜ r ≤ 12 ⌝ }
-{
-    match fault {
-        Fault::Short => 1,
-        Fault::Version => 2,
-        Fault::Code => 3,
-        Fault::BadText => 4,
-        Fault::Count => 5,
-        Fault::Forms => 6,
-        Fault::Security => 7,
-        Fault::Rule => 8,
-        Fault::Fill => 9,
-        Fault::Size => 10,
-        Fault::NoRoom => 11,
-        Fault::TooLong => 12,
-    }
 }
 
 fn wide(x: u32) -> u64 {
@@ -124,12 +106,11 @@ fn standard_version(h: &[u8]) -> u32
     16
 }
 
-fn refused(fault: Fault, place: u64) -> Summary
-    ensures { λ r. ⌜ r .number ≤ 12 ⌝ }
-{
+fn refused(fault: Fault, place: u64, block: BlockNumber) -> Summary {
     Summary {
-        number: number_of(fault),
+        number: wide(fault_number(fault)),
         place: place,
+        block: wide(block.0),
         header: 0,
         data: 0,
         name: 0,
@@ -142,12 +123,11 @@ fn refused(fault: Fault, place: u64) -> Summary
 }
 
 // What a record that was read shows.
-fn accepted(h: &[u8; RECORD], header: u64, data: u64) -> Summary
-    ensures { λ r. ⌜ r .number ≤ 12 ⌝ }
-{
+fn accepted(h: &[u8; RECORD], header: u64, data: u64) -> Summary {
     Summary {
         number: 0,
         place: 0,
+        block: 0,
         header: header,
         data: data,
         name: wide(name_length(h)),
@@ -160,14 +140,12 @@ fn accepted(h: &[u8; RECORD], header: u64, data: u64) -> Summary
 }
 
 // The record stays here; what is shown of it is taken out of its octets.
-pub fn summarise(datagram: &[u8]) -> Summary
-    ensures { λ r. ⌜ r .number ≤ 12 ⌝ }
-{
+pub fn summarise(datagram: &[u8]) -> Summary {
     let mut octets = [0u8; RECORD];
     let r = reader::read(datagram, &mut octets);
     let outcome = r.outcome;
-    if let Outcome::Refused(fault, at) = outcome {
-        return refused(fault, at.0 as u64);
+    if let Outcome::Refused(fault, at, block) = outcome {
+        return refused(fault, at.0 as u64, block);
     }
     let data = reader::user_data(datagram).len();
     accepted(&octets, r.length.0 as u64, data as u64)

@@ -2,7 +2,7 @@
 // group; the cells behind it stay as they were.
 ghost use mathlib.Core.Path.{_≡_};
 ghost use lib.ListN.{length};
-ghost use Rattle.record_octets.specs.Record.{sizeOfBlock, sizeOfCodes, sizeOfCompliance, sizeOfFormat, sizeOfHandling, sizeOfOptionalRequests, sizeOfOptionalResponse, sizeOfOptionalStamp, sizeOfRequests, sizeOfResponse, sizeOfTimes};
+ghost use Rattle.record_octets.specs.Record.{sizeOfBlock, sizeOfCodes, sizeOfCompliance, sizeOfFormat, sizeOfHandling, sizeOfIdentity, sizeOfOptionalIdentity, sizeOfOptionalRequests, sizeOfOptionalResponse, sizeOfOptionalStamp, sizeOfRequests, sizeOfResponse, sizeOfTimes};
 use crate::put::flag;
 use crate::put::number;
 use crate::words::*;
@@ -17,6 +17,8 @@ use record_octets::in_codes;
 use record_octets::in_compliance;
 use record_octets::in_format;
 use record_octets::in_handling;
+use record_octets::in_identity;
+use record_octets::in_optional_identity;
 use record_octets::in_optional_requests;
 use record_octets::in_optional_response;
 use record_octets::in_optional_stamp;
@@ -45,6 +47,29 @@ pub fn stamp(n: Numbers) -> Stamp {
     }
 }
 
+// The FAD, message number 5 and no subtype.
+fn identity(x: &mut [u8], fad: u32)
+    requires { ⌜ length (now x) ≡ sizeOfIdentity ⌝ }
+{
+    store_word(&mut x[in_identity::FAD..in_identity::NUMBER], fad);
+    store_word(&mut x[in_identity::NUMBER..in_identity::SUBTYPE], 5);
+    flag(&mut x[in_identity::SUBTYPE..in_identity::END], false);
+}
+
+// G4.
+fn optional_identity(x: &mut [u8], fad: u32)
+    requires { ⌜ length (now x) ≡ sizeOfOptionalIdentity ⌝ }
+{
+    flag(
+        &mut x[in_optional_identity::PRESENT..in_optional_identity::IDENTITY],
+        fad != ABSENT,
+    );
+    identity(
+        &mut x[in_optional_identity::IDENTITY..in_optional_identity::END],
+        fad,
+    );
+}
+
 fn format(x: &mut [u8], n: Numbers)
     requires { ⌜ length (now x) ≡ sizeOfFormat ⌝ }
 {
@@ -52,9 +77,9 @@ fn format(x: &mut [u8], n: Numbers)
         present: n[WITH_STANDARD] != ABSENT,
         value: n[WITH_STANDARD],
     };
-    store_word(&mut x[in_format::UMF..in_format::VERSION], 2);
+    store_word(&mut x[in_format::UMF..in_format::VERSION], n[IN_FORMAT]);
     number(&mut x[in_format::VERSION..in_format::IDENTITY], standard);
-    flag(&mut x[in_format::IDENTITY..in_format::FILE], false);
+    optional_identity(&mut x[in_format::IDENTITY..in_format::FILE], n[IDENTIFIED]);
     flag(&mut x[in_format::FILE..in_format::END], false);
 }
 

@@ -16,7 +16,7 @@ pub fn rooms() {
 pub fn wrong_count() {
     play(
         b"Post From 1, To 3, Asked 1;Wrong Kind 1;Post From 2, To 3, Asked 1;\
-        Post From 2, To 3, Asked 1, Minute 75;Post From 2, Number 2;\
+        Post From 2, To 3, Asked 1, Minute 75;Post From 2, Number 2;Post To 3, Asked 1;\
         Receipt From 3, To 1, Code 1;Receipt From 3, To 1, Code 9;Free From 1;Free From;\
         Line Number 0, Given 0;",
     );

@@ -1,6 +1,6 @@
 // Calls on the table of pending messages, at the limits of document 01. Each is a line of a script, which is printed
-// with what came of it: `done` or `refused` with the number, the listing, or a row's octets. The file stdout has
-// what each has to be, worked from document 01.
+// with what came of it: `done` or `refused` with the number and, where the refusal is about one, the block; the
+// listing, or a row's octets. The file stdout has what each has to be, worked from the papers.
 mod block;
 mod effects;
 mod lists;
@@ -17,6 +17,8 @@ fn main() {
     refusals::worked();
     refusals::postings();
     refusals::records();
+    refusals::blocks_posted();
+    refusals::blocks_received();
     refusals::versions();
     refusals::receipts();
     refusals::releases();

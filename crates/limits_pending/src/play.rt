@@ -33,7 +33,7 @@ fn same(a: &[u8; TABLE], b: &[u8; TABLE]) -> bool {
 // The answer. A refusal leaves every octet of the table as it was; another one would show.
 fn tell(answer: Answer, t: &[u8; TABLE], old: &[u8; TABLE]) {
     print_answer(answer);
-    let Answer::Refused(_, _) = answer else {
+    let Answer::Refused(_, _, _) = answer else {
         return;
     };
     if !same(t, old) {

@@ -33,13 +33,18 @@ fn block_list(list: &mut [u8], n: Numbers)
     }
 }
 
-// The blocks behind the first differ from it in the extension, which is 9.
+// The blocks behind the first differ from it in the extension, which is 9, and may differ in the UMF.
+fn next(n: Numbers) -> Numbers {
+    let mut q = n;
+    q[EXTENSION] = 9;
+    q[IN_FORMAT] = n[LATER_FORMAT];
+    q
+}
+
 fn blocks(x: &mut [u8], n: Numbers)
     requires { ⌜ length (now x) ≡ sizeOfBlocks ⌝ }
 {
-    let mut next = n;
-    next[EXTENSION] = 9;
-    block_list(&mut x[in_blocks::LIST..in_blocks::COUNT], next);
+    block_list(&mut x[in_blocks::LIST..in_blocks::COUNT], next(n));
     block(&mut x[in_blocks::LIST..in_blocks::ENTRY], n);
     store_word(&mut x[in_blocks::COUNT..in_blocks::END], n[BLOCKS]);
 }
@@ -104,12 +109,17 @@ fn front(x: &mut [u8], line: Line)
     flag(&mut x[in_front::INFORMATION..in_front::END], false);
 }
 
+// Several blocks have a header size, unless a line takes it away.
+fn sized(n: Numbers) -> bool {
+    (n[BLOCKS] != 1) & (n[NO_HEADER_SIZE] == ABSENT)
+}
+
 fn header(x: &mut [u8], line: Line)
     requires { ⌜ length (now x) ≡ sizeOfHeader ⌝ }
 {
     let n = line.numbers;
     front(&mut x[in_header::FRONT..in_header::SIZED], line);
-    flag(&mut x[in_header::SIZED..in_header::BLOCKS], n[BLOCKS] != 1);
+    flag(&mut x[in_header::SIZED..in_header::BLOCKS], sized(n));
     blocks(&mut x[in_header::BLOCKS..in_header::END], n);
 }
 

@@ -49,6 +49,38 @@ pub fn records() {
     );
 }
 
+// Two blocks or more: a rule or a size that is wrong in any block refuses the call, whichever block is posted, and
+// tells that block; the earlier rule decides, and then the earlier block. All this comes before the missing block.
+pub fn blocks_posted() {
+    play(
+        b"Post From 207, To 3, Asked 1, Blocks 2, User data 2, idEntified, Later format 1;\
+        Post From 207, To 3, Asked 1, Blocks 2, User data 2, idEntified, Later format 1, Number 2;\
+        Post From 207, To 3, Asked 1, Blocks 2, User data 2, idEntified, Later format 1, Number 3;\
+        Post From 207, To 3, Asked 1, Blocks 2, User data 2, idEntified, In format 4, Later format 1;\
+        Post From 207, To 3, Asked 1, Blocks 2, User data 2, idEntified, In format 4, Later format 4;\
+        Post From 207, To 3, Asked 1, Blocks 16, User data 16, idEntified, Later format 4, Number 16;\
+        Post To 3, Asked 1, Blocks 2, User data 2, idEntified, Later format 1;\
+        Post From 207, To 3, Asked 1, Blocks 2, User data 2, no header siZe;\
+        Post From 207, To 3, Asked 1, Blocks 2, User data 3;Show;\
+        Post From 207, To 3, Asked 1, Blocks 2, User data 2, idEntified, Later format 5, Number 2;Show;",
+    );
+}
+
+// A receipt in UMF 4 lacks its body (53) at any size, but a wrong sum (52) comes before that.
+pub fn blocks_received() {
+    play(
+        b"Post From 207, To 3, Asked 1;Receipt From 3, To 207, Code 1, In format 4;\
+        Receipt From 3, To 207, Code 1, In format 4, User data 1;\
+        Receipt From 3, To 207, Code 1, Blocks 2, Later format 4;\
+        Receipt From 3, To 207, Code 1, Blocks 2, Later format 4, Number 3;\
+        Receipt From 3, To 207, Code 1, Blocks 2, Later format 4, User data 1;\
+        Receipt From 3, To 207, Code 1, Blocks 2, Later format 4, idEntified;\
+        Receipt From 3, To 207, Code 1, Blocks 2, In format 4, Later format 1, idEntified;\
+        Receipt From 3, To 207, Code 1, Blocks 2, no header siZe;Show;\
+        Receipt From 3, To 207, Code 1, Blocks 2, Later format 5, idEntified;Show;",
+    );
+}
+
 // Version 1 beside version 2: the table does not tell them apart. A standard version that version 1 does not have comes
 // before the missing block and whatever else is wrong.
 pub fn versions() {

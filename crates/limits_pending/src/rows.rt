@@ -56,7 +56,7 @@ fn print_row(t: &[u8; TABLE], number: u32) {
     fill(out);
     match listing::list_row(t, number, out) {
         Listed::Done(size) => print_first(out, size.0),
-        Listed::Refused(fault, at) => print_refused(listing_number(fault), at.0),
+        Listed::Refused(fault, at, block) => print_refused(listing_number(fault), at.0, block),
     }
 }
 
@@ -89,8 +89,8 @@ pub fn print_line(t: &[u8; TABLE], number: u32, room: usize) {
             print(b", rest");
             print_kept(out, size.0);
         }
-        Listed::Refused(fault, at) => {
-            print_refused(listing_number(fault), at.0);
+        Listed::Refused(fault, at, block) => {
+            print_refused(listing_number(fault), at.0, block);
             print(b", output");
             print_kept(out, 0);
         }

@@ -1,5 +1,6 @@
 // A line of a script, read character by character. A capital letter begins a part, a number behind it belongs
-// to it, and a name stands in round brackets; other characters are there for the reader. Each To adds a recipient.
+// to it, which is 0 if there is none, and a name stands in round brackets; other characters are there for the reader.
+// Each To adds a recipient.
 use header::Address;
 use header::OptionalText;
 use header::zero::NO_NUMBER;
@@ -7,7 +8,7 @@ use header::zero::no_address;
 use optional::OptionalNumber;
 use text::Text;
 
-// Stands for a group, an extension or a standard version that a line does not have.
+// Stands for a part that a line does not have, where it has no other usual number.
 pub const ABSENT: u32 = 4294967295;
 
 // The parts' letters, counted from A.
@@ -19,13 +20,19 @@ pub const CODE: usize = 2;
 
 pub const DAY: usize = 3;
 
+pub const IDENTIFIED: usize = 4;
+
 pub const FROM: usize = 5;
 
 pub const GIVEN: usize = 6;
 
 pub const HOUR: usize = 7;
 
+pub const IN_FORMAT: usize = 8;
+
 pub const KIND: usize = 10;
+
+pub const LATER_FORMAT: usize = 11;
 
 pub const MINUTE: usize = 12;
 
@@ -47,6 +54,8 @@ pub const EXTENSION: usize = 23;
 
 pub const YEAR: usize = 24;
 
+pub const NO_HEADER_SIZE: usize = 25;
+
 pub type Numbers = [u32; 26];
 
 // What has been read of a line: its first letter, its numbers, its addresses; and the part that is being read,
@@ -66,20 +75,20 @@ pub struct Line {
     quoted: bool,
 }
 
-// The DTG, without an extension, is that of document 01's octets B; block 1 of 1.
+// The DTG, without an extension, is that of document 01's octets B; block 1 of 1, in UMF 2 without G4.
 const USUAL: Numbers = [
     ABSENT, // ASKED
     1, // BLOCKS
     ABSENT, // CODE
     3, // DAY
-    0, // E
+    ABSENT, // IDENTIFIED
     0, // FROM
     4096, // GIVEN
     16, // HOUR
-    0, // I
+    2, // IN_FORMAT
     0, // J
     0, // KIND
-    0, // L
+    2, // LATER_FORMAT
     27, // MINUTE
     1, // NUMBER
     7, // OF_MONTH
@@ -93,7 +102,7 @@ const USUAL: Numbers = [
     ABSENT, // WITH_STANDARD
     ABSENT, // EXTENSION
     96, // YEAR
-    0, // Z
+    ABSENT, // NO_HEADER_SIZE
 ];
 
 pub fn no_line() -> Line {

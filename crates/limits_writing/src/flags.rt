@@ -25,7 +25,8 @@ pub fn written() {
     with_flags(b"a receipt with CANTPRO", reply(2, ABSENT, 33), 128, 0);
 }
 
-// A flag decides which fields are looked at (3, 4), the forms of an address (6) and the rules (8): (a), (b), (e), (i).
+// A flag decides which fields are looked at (3, 4), the forms of an address (6) and the rules: (a), (b), (e) and (i),
+// which are 41, 42, 45 and 49.
 pub fn refused() {
     two(COMPRESSION, 2, FLAG, 2, 1);
     two(FILE, 0, FLAG, 128, 1);

@@ -22,7 +22,7 @@ fn octets_c_in(room: usize, count: usize) {
 }
 
 pub fn lengths() {
-    // The block owns no octet, and has no G8: 10.
+    // The block owns no octet, and has no G8: 53.
     octets_a_in(WHOLE, 0);
     // 5 + 65,502 octets.
     octets_a_in(WHOLE, 65502);
@@ -33,7 +33,7 @@ pub fn lengths() {
     // 16 + 65,491 octets.
     octets_b_in(WHOLE, 65491);
     octets_b_in(WHOLE, 65492);
-    // A receipt owns nothing: 10 comes before 12.
+    // A receipt owns nothing: 54 comes before 12.
     octets_c_in(WHOLE, 65508);
     octets_c_in(WHOLE, 18446744073709551615);
 }
@@ -47,7 +47,7 @@ pub fn rooms() {
     octets_b_in(15, 1);
     octets_c_in(16, 0);
     octets_c_in(15, 0);
-    // 12 and 10 come before 11.
+    // 12 and 53 come before 11.
     octets_a_in(4, 65503);
     octets_a_in(4, 0);
 }

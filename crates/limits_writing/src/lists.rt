@@ -51,7 +51,8 @@ pub fn equal(n: u32, size: u32, count: usize) {
     print(b", ");
     part(SIZE, size);
     let p = changed(changed(PLAIN, SIZED, 1), BLOCKS, n);
-    with_data(changed(changed(p, SIZE, size), NEXT_SIZE, size), count);
+    let p = changed(changed(p, SIZE, size), NEXT_SIZE, size);
+    with_data(changed(p, LAST_SIZE, size), count);
 }
 
 pub fn blocks() {

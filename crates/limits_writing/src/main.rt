@@ -1,7 +1,8 @@
 // Records at the limits of document 01, written. Each case is one line: its name; then `written` with the
 // octets of the header, whether the octets behind it are as they were, and the length that the reader tells
-// of it, or `refused` with the number, and whether the output is as it was. The file stdout has what each has
-// to be, worked from document 01; the count of bits stands beside the case here.
+// of it, or `refused` with the number and, where the refusal is about one, the block, and whether the output is
+// as it was. The file stdout has what each has to be, worked from the papers; the count of bits stands beside
+// the case.
 //
 // The counts begin with octets A, 33 bits: version 4; one for each of compression, G1, G2, G3 and the header
 // size, which are absent; and a block of 24: recurrence 1, UMF 4, standard version, G4, file name and message
@@ -21,6 +22,7 @@ mod tell;
 mod texts;
 mod unused;
 mod versions;
+mod which;
 mod worked;
 
 fn fields() {
@@ -57,6 +59,12 @@ fn main() {
     rules_and_sizes::receipts();
     rules_and_sizes::one_block();
     rules_and_sizes::several_blocks();
+    rules_and_sizes::sixteen_blocks();
+    which::rule_behind_rule();
+    which::rule_twice();
+    which::missing_header_size();
+    which::bodies();
+    which::format_4();
     lengths::lengths();
     lengths::rooms();
     order::fronts();

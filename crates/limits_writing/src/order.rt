@@ -1,5 +1,5 @@
 // Two faults at once: the earlier check decides. Fields are judged in their order whatever the fault's number is, a
-// list's count before its entries; then come 8, 10, 12 and 11.
+// list's count before its entries; then come the rules (41 to 49), the sizes (52 to 54), 12 and 11.
 use crate::cases::one;
 use crate::cases::three;
 use crate::cases::two;
@@ -38,7 +38,7 @@ pub fn checks() {
     // (a) before the missing data, a wrong size before the length.
     one(REQUESTS, 0, 0);
     one(SIZE, 1, 18446744073709551615);
-    // 2, 8 and 10 before 11.
+    // 2, 41 and 54 before 11.
     without_room(VERSION, 3);
     without_room(REQUESTS, 0);
     without_room(CODE, 1);

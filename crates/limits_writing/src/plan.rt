@@ -2,7 +2,7 @@
 use crate::tell::print;
 use crate::tell::print_number;
 
-pub type Plan = [u32; 48];
+pub type Plan = [u32; 49];
 
 // Stands for a field, a text or a group that is absent.
 pub const ABSENT: u32 = 4294967295;
@@ -112,6 +112,9 @@ pub const EXTENSION: usize = 46;
 // What every flag of the record that is set holds: a flag is set unless it is 0.
 pub const FLAG: usize = 47;
 
+// In what the 16th block differs from those before it.
+pub const LAST_SIZE: usize = 48;
+
 // Document 01's octets A: no addresses, UMF 2. A group that a case makes present has in it what octets B have.
 pub const PLAIN: Plan = [
     2, // VERSION
@@ -162,21 +165,23 @@ pub const PLAIN: Plan = [
     55, // SECOND
     ABSENT, // EXTENSION
     1, // FLAG
+    ABSENT, // LAST_SIZE
 ];
 
 // The labels of the keys, in their order.
-const LABELS: [u8; 498] =
+const LABELS: [u8; 508] =
     *b"version,compression,URN,name of,no form,place,character,recipients,recipient's URN,\
         recipient's name of,next recipient's URN,information addressees,\
         information addressee's URN,header size,blocks,next UMF,next size,next R/C,\
         next standard version,UMF,\
         standard version,FAD,message number,subtype,file name of,size,operation,retransmit,\
         precedence,classification,marking of,G5,G6,requests,R/C,CANTCO,CANTPRO,amplification of,\
-        references,reference's URN,year,month,day,hour,minute,second,extension,flags of";
+        references,reference's URN,year,month,day,hour,minute,second,extension,flags of,\
+        last size";
 
 pub fn changed(plan: Plan, key: usize, value: u32) -> Plan {
     let mut p = plan;
-    if key < 48 {
+    if key < 49 {
         p[key] = value;
     }
     p

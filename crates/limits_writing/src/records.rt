@@ -135,6 +135,13 @@ fn next(p: Plan) -> Plan {
     q
 }
 
+// The plan of the 16th block.
+fn last(p: Plan) -> Plan {
+    let mut q = next(p);
+    q[SIZE] = p[LAST_SIZE];
+    q
+}
+
 // All alike.
 fn block_list(list: &mut [u8], p: Plan)
     requires { ⌜ length (now list) ≡ sizeOfBlocksList ⌝ }
@@ -152,6 +159,7 @@ fn blocks(x: &mut [u8], p: Plan)
 {
     block_list(&mut x[in_blocks::LIST..in_blocks::COUNT], next(p));
     block(&mut x[in_blocks::LIST..in_blocks::ENTRY], p);
+    block(&mut x[15 * in_blocks::ENTRY..in_blocks::COUNT], last(p));
     store_word(&mut x[in_blocks::COUNT..in_blocks::END], p[BLOCKS]);
 }
 

@@ -1,4 +1,5 @@
-// The rules (8) and the sizes (10): records that break one, and beside them the nearest that keep it.
+// The rules (41 to 49) and the sizes (52 to 54): records that break one, and beside them the nearest that keep it. The
+// writer has no header size that could be wrong (51): it writes the right one.
 use crate::cases::one;
 use crate::cases::three;
 use crate::cases::two;
@@ -41,11 +42,14 @@ fn pair(sized: u32, size: u32, next: u32, count: usize) {
     with_data(changed(changed(p, SIZE, size), NEXT_SIZE, next), count);
 }
 
-// Rule (f): several blocks have a header size and a message size each. One block needs neither; with a header
-// size alone it has 33 + 16 = 49 bits in 7 octets.
+// Rule (f): several blocks have a header size and a message size each. The header size is asked for first, and told
+// with no block. One block needs neither; with a header size alone it has 33 + 16 = 49 bits in 7 octets.
 pub fn rule_f() {
     pair(1, 1, 1, 2);
     pair(0, 1, 1, 2);
+    pair(0, ABSENT, 1, 2);
+    pair(0, 1, ABSENT, 2);
+    pair(0, ABSENT, ABSENT, 2);
     pair(1, ABSENT, 1, 2);
     pair(1, 1, ABSENT, 2);
     pair(1, ABSENT, ABSENT, 2);
@@ -86,29 +90,33 @@ pub fn second_block() {
     // G4 in both: 113 + 2 * 12 = 137 bits in 18 octets. UMF 1 in the second breaks (c).
     behind(2, 2, 1, ABSENT, 2);
     behind(1, 2, 1, ABSENT, 2);
-    // G8 in the second, which owns nothing: 113 + 40 = 153 bits in 20 octets. With UMF 4 it is 10.
+    // G8 in the second, which owns nothing: 113 + 40 = 153 bits in 20 octets. With UMF 4 it is 53.
     behind(2, ABSENT, 0, 1, 1);
     behind(4, ABSENT, 0, 1, 1);
 }
 
-// A block with G8 owns nothing, and has no UMF 4.
+// A block with G8 owns nothing (54). In UMF 4 it lacks its data at any size (53), but a size that is not the data's
+// comes before that (52).
 pub fn receipts() {
     one(CODE, 1, 1);
     two(UMF, 4, CODE, 1, 0);
     two(UMF, 4, CODE, 1, 1);
+    three(UMF, 4, SIZE, 0, CODE, 1, 0);
+    three(UMF, 4, SIZE, 1, CODE, 1, 1);
+    three(UMF, 4, SIZE, 1, CODE, 1, 0);
     // 73 + 20 = 93 bits in 12 octets.
     two(SIZE, 0, CODE, 1, 0);
     two(SIZE, 1, CODE, 1, 1);
 }
 
-// A message size: 33 + 20 = 53 bits in 7 octets. It is what the block owns, and without G8 that is something.
+// A message size: 33 + 20 = 53 bits in 7 octets. It is what the block owns (52), and without G8 that is something (53).
 pub fn one_block() {
     one(SIZE, 1, 1);
     one(SIZE, 1, 2);
     one(SIZE, 2, 1);
     one(SIZE, 0, 0);
     one(SIZE, 0, 1);
-    // The largest that has 20 bits: 10 unless the data is as much, and then it is too much (12).
+    // The largest that has 20 bits: 52 unless the data is as much, and then it is too much (12).
     one(SIZE, 1048575, 1);
     one(SIZE, 1048575, 1048575);
     one(SIZE, 1048576, 1048576);
@@ -121,9 +129,28 @@ pub fn several_blocks() {
     pair(1, 1, 2, 3);
     pair(1, 1, 2, 2);
     pair(1, 1, 2, 4);
-    // The sum is right, but one block owns nothing.
+    // The sum is right, but one block owns nothing. A wrong sum comes before that, and too long a datagram behind it.
     pair(1, 0, 2, 2);
     pair(1, 2, 0, 2);
+    pair(1, 0, 1, 2);
+    pair(1, 0, 65535, 65535);
     // 16 blocks of the largest size: the sum is right, and the data too long.
     equal(16, 1048575, 16777200);
+}
+
+// 16 blocks of one octet, of which the last owns so much.
+fn last_of_sixteen(size: u32, count: usize) {
+    part(BLOCKS, 16);
+    print(b", ");
+    part(LAST_SIZE, size);
+    let p = changed(changed(PLAIN, SIZED, 1), BLOCKS, 16);
+    let p = changed(changed(p, SIZE, 1), NEXT_SIZE, 1);
+    with_data(changed(p, LAST_SIZE, size), count);
+}
+
+// 729 bits in 92 octets with a size; without one it is (f), and 0 is too little.
+pub fn sixteen_blocks() {
+    last_of_sixteen(2, 17);
+    last_of_sixteen(ABSENT, 16);
+    last_of_sixteen(0, 15);
 }

@@ -1,8 +1,11 @@
 // One case: a record is written into octets that hold a pattern, and a line tells what came of it. A line is
-// a name, then `written` with the header's octets or `refused` with the number; whether the rest of the
-// output, or all of it, is as it was; and what the reader makes of the header that was written.
+// a name, then `written` with the header's octets or `refused` with the number and, where the refusal is about
+// one, the block; whether the rest of the output, or all of it, is as it was; and what the reader makes of the
+// header that was written.
 use bits::OctetSize;
+use codec::BlockNumber;
 use codec::Fault;
+use codec::fault_number;
 use libc::STDOUT_FILENO;
 use reader::Outcome;
 use record_octets::RECORD;
@@ -17,24 +20,6 @@ pub fn print(text: &[u8]) {
 
 pub fn print_number(n: u64) {
     io::print_decimal(STDOUT_FILENO, n);
-}
-
-// Document 01's number of a fault.
-fn number_of(fault: Fault) -> u64 {
-    match fault {
-        Fault::Short => 1,
-        Fault::Version => 2,
-        Fault::Code => 3,
-        Fault::BadText => 4,
-        Fault::Count => 5,
-        Fault::Forms => 6,
-        Fault::Security => 7,
-        Fault::Rule => 8,
-        Fault::Fill => 9,
-        Fault::Size => 10,
-        Fault::NoRoom => 11,
-        Fault::TooLong => 12,
-    }
 }
 
 // What octet i of the output holds before a call: never 0 or 255, and not the same as its neighbours.
@@ -70,15 +55,24 @@ fn print_kept(out: &[u8], n: usize) {
     print(b" CHANGED");
 }
 
+// The block that a refusal is about.
+fn print_block(block: BlockNumber) {
+    if block.0 != 0 {
+        print(b" in block ");
+        print_number(block.0 as u64);
+    }
+}
+
 fn print_outcome(outcome: Outcome, length: usize) {
     print(b", read back ");
     match outcome {
         Outcome::Done => {
             print_number(length as u64);
         }
-        Outcome::Refused(fault, _) => {
+        Outcome::Refused(fault, _, block) => {
             print(b"refused ");
-            print_number(number_of(fault));
+            print_number(fault_number(fault) as u64);
+            print_block(block);
         }
     }
 }
@@ -133,13 +127,14 @@ fn print_written(out: &[u8], size: usize, count: usize) {
 }
 
 // The writer's refusals have place 0; another one would show.
-fn print_refused(out: &[u8], fault: Fault, place: usize) {
+fn print_refused(out: &[u8], fault: Fault, place: usize, block: BlockNumber) {
     print(b": refused ");
-    print_number(number_of(fault));
+    print_number(fault_number(fault) as u64);
     if place != 0 {
         print(b" at ");
         print_number(place as u64);
     }
+    print_block(block);
     print(b", output");
     print_kept(out, 0);
 }
@@ -152,7 +147,7 @@ fn print_answer(answer: Written, out: &[u8], count: usize, hex: bool) {
                 print_octets(out, size.0);
             }
         }
-        Written::Refused(fault, at) => print_refused(out, fault, at.0),
+        Written::Refused(fault, at, block) => print_refused(out, fault, at.0, block),
     }
     print(b"\n");
 }

@@ -48,7 +48,7 @@ pub fn refused() {
     two(VERSION, 1, STANDARD, 0, 1);
     two(VERSION, 1, STANDARD, 15, 1);
     two(VERSION, 1, STANDARD, 16, 1);
-    // Before an empty file name (4), a rule (8), the missing data (10); behind an empty name of G1 (4).
+    // Before an empty file name (4), a rule (41), the missing data (53); behind an empty name of G1 (4).
     three(VERSION, 1, STANDARD, 0, FILE, 0, 1);
     three(VERSION, 1, STANDARD, 0, REQUESTS, 0, 1);
     two(VERSION, 1, STANDARD, 0, 0);

@@ -64,6 +64,7 @@ pub const EVERY: Plan = [
     58, // SECOND
     4094, // EXTENSION
     1, // FLAG
+    ABSENT, // LAST_SIZE
 ];
 
 // G8 with an extension, a reason and an amplification, and a message size, which is 0.

@@ -65,12 +65,12 @@ module _ (t : Table) (n : ℕ) (out : List ℕ) where
   abbrev Told : Listing → List ℕ → Type 0
   Told x after = (x ≡ listing t n (length out)) × (after ≡ outputAfter (see t) n (listing t n (length out)) out)
 
-  pub ill-formed : wellFormed t ≡ false → Told (rejected 30 0) out
+  pub ill-formed : wellFormed t ≡ false → Told (rejected 30 0 0) out
   unfolding listing outputAfter
   ill-formed e = (rw e, rw e)
 
   module _ (well : wellFormed t ≡ true) where
-    pub no-room : leb (length (listed (see t) n)) (length out) ≡ false → Told (rejected 11 0) out
+    pub no-room : leb (length (listed (see t) n)) (length out) ≡ false → Told (rejected 11 0 0) out
     unfolding listing listingOf outputAfter
     no-room e = (rw (well, e), rw (well, e))
 

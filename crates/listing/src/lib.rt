@@ -14,6 +14,7 @@ use bits::BitPlace;
 use bits::OctetSize;
 use cells::entry;
 use cells::load_word;
+use codec::BlockNumber;
 use inspect::inspect;
 use row_text::rows::count_line_length;
 use row_text::rows::put_count_line;
@@ -33,17 +34,17 @@ pub enum ListingFault {
     IllFormed,
 }
 
-// The answer of the listing: done, with the octets written; or refused with the kind of fault and the
-// place, which is always 0.
+// The answer of the listing: done, with the octets written; or refused with the kind of fault, the place
+// and the block, which are always 0.
 pub enum Listed {
     Done(OctetSize),
-    Refused(ListingFault, BitPlace),
+    Refused(ListingFault, BitPlace, BlockNumber),
 }
 
 fn refusal(fault: ListingFault) -> Listed
-    ensures { λ r. ⌜ told r ≡ rejected (listingNo fault) 0 ⌝ }
+    ensures { λ r. ⌜ told r ≡ rejected (listingNo fault) 0 0 ⌝ }
 {
-    Listed::Refused(fault, BitPlace(0))
+    Listed::Refused(fault, BitPlace(0), BlockNumber(0))
 }
 
 // The octets of the table's row with a number, from 1 on.

@@ -10,6 +10,8 @@ use native.Mathlib.Omega.{arith}
 use lib.ListN.{length, length-map}
 use lib.Dec.{T, leb}
 use borrow.Author.Tests.{lt-leb, leb-false}
+use Rattle.codec.specs.Verdict.{Verdict, fine}
+use Rattle.codec.specs.Verdict as verdict
 use Rattle.calls.specs.Keyed.{find, alter, sort, InOrder}
 use Rattle.calls.specs.Machine.{step}
 use Rattle.calls.specs.Operations as theory
@@ -36,15 +38,15 @@ lawful = record { order = by-key; comm = λ x y t. refl; nothing = λ t. refl }
 abbrev State : Type 0
 State = Rows × Unit {0}
 
-abbrev whole : Call → State → ℕ × State
+abbrev whole : Call → State → Verdict × State
 whole c = theory.onTable rules c
 
-abbrev plain : Call → State → ℕ × State
+abbrev plain : Call → State → Verdict × State
 plain c = theory.sheet rules c
 
 -- ---- a refusal leaves the table
 
-pub refused-stays : (c : Call) (s : Rows) → InOrder byKey s → onTable c s .0 ≢ 0 → onTable c s .1 ≡ s
+pub refused-stays : (c : Call) (s : Rows) → InOrder byKey s → onTable c s .0 ≢ fine → onTable c s .1 ≡ s
 unfolding onTable
 refused-stays c s u h = ap (λ (x : State). x .0) (laws.refused-stays rules lawful c (s, tt) u h)
 
@@ -162,7 +164,7 @@ module _ {C : Type 0} (read : C → Call) where
 
 -- ---- the table's rows stay well formed
 
-entered-fits : (r : Row) (n : ℕ) (o : Option Row) (b : Bool) → leb 32 n ≡ b → n ≤ 32 → n + held (theory.entered rules r o (cond b (some 23) none) .2) ≤ 32 + held o
+entered-fits : (r : Row) (n : ℕ) (o : Option Row) (b : Bool) → leb 32 n ≡ b → n ≤ 32 → n + held (theory.entered rules r o (cond b (some (verdict.plain 23)) none) .2) ≤ 32 + held o
 entered-fits r n (some o) b e l = omega (arith, l)
 entered-fits r n none true e l = omega (arith, l)
 entered-fits r n none false e l = omega (arith, leb-false 32 n e)
@@ -242,13 +244,13 @@ module _ (LegalKey : Key → Type 0) (LegalAddress : Address → Type 0) where
     fine-reply none f = h
     fine-reply (some m) f = fine-written m f _ refl
 
-  fine-entered : (k : Key) (r : Row) (o : Option Row) (g : Option ℕ) → Fine k r → FineAt k o → FineAt k (theory.entered rules r o g .2)
+  fine-entered : (k : Key) (r : Row) (o : Option Row) (g : Option Verdict) → Fine k r → FineAt k o → FineAt k (theory.entered rules r o g .2)
   fine-entered k r (some o) g p h = h
   fine-entered k r none (some n) p h = h
   fine-entered k r none none p h = p
 
   fine-act : (d : Operation) → LegalOperation LegalKey LegalAddress d → (n : ℕ) (t : Unit {0}) (o : Option Row) → FineAt (key d) o → FineAt (key d) (theory.act rules d n t o .2)
-  fine-act (post k r) l n t o h = fine-entered k r o (lineFree 32 23 n) l h
+  fine-act (post k r) l n t o h = fine-entered k r o (lineFree 32 (verdict.plain 23) n) l h
   fine-act (receipt k p) l n t none h = tt
   fine-act (receipt k p) l n t (some r) h = fine-reply k r (p .0) (p .1) h _ refl
   fine-act (release k) l n t none h = tt

@@ -5,6 +5,7 @@ use mathlib.Core.List.{List, map}
 use mathlib.Core.Option.{Option, none, some}
 use Prim.Native.Nat.{ℕ}
 use lib.Dec.{leb}
+use Rattle.codec.specs.Verdict.{Verdict, plain, fine}
 use Rattle.calls.specs.Keyed.{find, alter, sort}
 use Rattle.calls.specs.Operations as theory
 use Rattle.order.specs.Values.{Key, Address, byKey, byAddress}
@@ -29,15 +30,15 @@ Receipt = Address × ℕ
 abbrev pub Operation : Type 0
 Operation = theory.Operation Key Row Receipt
 
--- a call's arguments alone refuse it, with this number, or they name an operation
+-- a call's arguments alone refuse it, with this answer, or they name an operation
 abbrev pub Call : Type 0
-Call = ℕ ⊎ Operation
+Call = Verdict ⊎ Operation
 
 -- so many rows, and no free line
 abbrev pub full : ℕ → Bool
 full n = leb 32 n
 
--- ---- what a receipt makes of a row: its answer, and the marks at the answerer
+-- ---- what a receipt makes of a row: the number of its answer, which tells no block, and the marks at the answerer
 
 abbrev pub written : Option Mark → ℕ × Option Mark
 written none = (28, none)
@@ -55,20 +56,20 @@ mark w none l = l
 mark w (some m) l = alter byAddress w (λ o. m) l
 
 -- refused with its answer, or the row with the marks; nothing is counted
-abbrev pub marked : Address → Row → ℕ × Option Mark → ℕ ⊎ (Unit {0} × Row)
-marked w r (n, none) = inl n
+abbrev pub marked : Address → Row → ℕ × Option Mark → Verdict ⊎ (Unit {0} × Row)
+marked w r (n, none) = inl (plain n)
 marked w r (n, some m) = inr (tt, (r .0, mark w (some m) (r .1)))
 
 -- ---- the rules: rows by key, 22 where the key is held, 26 where no row has it, 23 where all 32 lines are held, and nothing counted
 
-abbrev pub rules : theory.Rules Key Row Receipt ℕ (Unit {0})
+abbrev pub rules : theory.Rules Key Row Receipt Verdict (Unit {0})
 rules =
     record {
       cmp = byKey;
-      done = 0;
-      held = 22;
-      missing = 26;
-      gate = λ r n t. theory.lineFree 32 23 n;
+      done = fine;
+      held = plain 22;
+      missing = plain 26;
+      gate = λ r n t. theory.lineFree 32 (plain 23) n;
       patch = λ p r. marked (p .0) r (replied (p .0) (p .1) r);
       zero = tt;
       add = λ x t. tt;
@@ -77,7 +78,7 @@ rules =
     }
 
 -- what a call answers and makes of the table's rows, which stand in key order
-unfoldable pub onTable : Call → Rows → ℕ × Rows
+unfoldable pub onTable : Call → Rows → Verdict × Rows
 onTable c s = let x = theory.onTable rules c (s, tt) in (x .0, x .1 .0)
 
 -- ---- calls that may change places

@@ -8,7 +8,7 @@ ghost use Rattle.record_octets.specs.Record.{headerIn};
 ghost use Rattle.table.specs.Rows.{see};
 ghost use Rattle.table_octets.specs.Table.{keyIn, sizeOfTable, tableIn};
 ghost use Rattle.arguments.specs.Arguments.{posting, receiving, releasing, callOf};
-ghost use Rattle.arguments.specs.Told.{answerNo, answerPlace};
+ghost use Rattle.arguments.specs.Told.{answerSays, answerPlace};
 ghost use Rattle.transitions.specs.Transition.{Transition};
 use arguments::Answer;
 use arguments::block_at;
@@ -40,7 +40,7 @@ pub fn empty(t: &mut [u8; TABLE])
 
 // Posts a block of a message: a row for it, unless its key is held or no line is free.
 pub fn post(t: &mut [u8; TABLE], h: &[u8; RECORD], number: u32, count: OctetSize) -> Answer
-    ensures { λ r. ⌜ Transition (callOf (posting (headerIn (now (h .entry))) number (count .0))) (now (t .entry)) (answerNo r) (now (t .exit)) × (answerPlace r ≡ 0) ⌝ }
+    ensures { λ r. ⌜ Transition (callOf (posting (headerIn (now (h .entry))) number (count .0))) (now (t .entry)) (answerSays r) (now (t .exit)) × (answerPlace r ≡ 0) ⌝ }
 {
     let block = block_at(h, number);
     let said = check_posting(h, block, number, count);
@@ -53,7 +53,7 @@ pub fn post(t: &mut [u8; TABLE], h: &[u8; RECORD], number: u32, count: OctetSize
 
 // Settles what a receipt answers, in the row with its key, at its answerer, with its code.
 pub fn receipt(t: &mut [u8; TABLE], h: &[u8; RECORD], number: u32, count: OctetSize) -> Answer
-    ensures { λ r. ⌜ Transition (callOf (receiving (headerIn (now (h .entry))) number (count .0))) (now (t .entry)) (answerNo r) (now (t .exit)) × (answerPlace r ≡ 0) ⌝ }
+    ensures { λ r. ⌜ Transition (callOf (receiving (headerIn (now (h .entry))) number (count .0))) (now (t .entry)) (answerSays r) (now (t .exit)) × (answerPlace r ≡ 0) ⌝ }
 {
     let block = block_at(h, number);
     let said = check_receipt(h, block, number, count);
@@ -66,7 +66,7 @@ pub fn receipt(t: &mut [u8; TABLE], h: &[u8; RECORD], number: u32, count: OctetS
 
 // Takes a message out of the table.
 pub fn release(t: &mut [u8; TABLE], key: &[u8; KEY]) -> Answer
-    ensures { λ r. ⌜ Transition (callOf (releasing (keyIn (now (key .entry))))) (now (t .entry)) (answerNo r) (now (t .exit)) × (answerPlace r ≡ 0) ⌝ }
+    ensures { λ r. ⌜ Transition (callOf (releasing (keyIn (now (key .entry))))) (now (t .entry)) (answerSays r) (now (t .exit)) × (answerPlace r ≡ 0) ⌝ }
 {
     let said = by_check(check_key(key));
     release_row(t, key, said)

@@ -6,6 +6,7 @@ use mathlib.Core.List.{List, [], _∷_}
 use lib.ListN.{length, getD}
 use native.Mathlib.Omega.{arith}
 use Rattle.codec.specs.Answer.{pick}
+use Rattle.codec.specs.Verdict.{Verdict}
 use Rattle.header.specs.Zero.{noBlock}
 use Rattle.header.specs.declared.Block.{Block}
 use Rattle.header.specs.declared.Header.{Header}
@@ -49,13 +50,13 @@ at-block h (suc i) b j e =
 
 -- ---- one call
 
-pub plays-receipt : (h : Header) (n count k : ℕ) (b : Bool) (t t′ : List ℕ) → b ≡ blockAt h n .response .present → b ≡ true → Transition (callOf (receiving h n count)) t k t′ → Plays (turn h n count) t t′
+pub plays-receipt : (h : Header) (n count : ℕ) (v : Verdict) (b : Bool) (t t′ : List ℕ) → b ≡ blockAt h n .response .present → b ≡ true → Transition (callOf (receiving h n count)) t v t′ → Plays (turn h n count) t t′
 unfolding turn
-plays-receipt h n count k b t t′ e y d = let z : blockAt h n .response .present ≡ true = sym e ∙ y in rw z (record { rows = d .rows; well = d .well })
+plays-receipt h n count v b t t′ e y d = let z : blockAt h n .response .present ≡ true = sym e ∙ y in rw z (record { rows = d .rows; well = d .well })
 
-pub plays-posting : (h : Header) (n count k : ℕ) (b : Bool) (t t′ : List ℕ) → b ≡ blockAt h n .response .present → b ≡ false → Transition (callOf (posting h n count)) t k t′ → Plays (turn h n count) t t′
+pub plays-posting : (h : Header) (n count : ℕ) (v : Verdict) (b : Bool) (t t′ : List ℕ) → b ≡ blockAt h n .response .present → b ≡ false → Transition (callOf (posting h n count)) t v t′ → Plays (turn h n count) t t′
 unfolding turn
-plays-posting h n count k b t t′ e y d = let z : blockAt h n .response .present ≡ false = sym e ∙ y in rw z (record { rows = d .rows; well = d .well })
+plays-posting h n count v b t t′ e y d = let z : blockAt h n .response .present ≡ false = sym e ∙ y in rw z (record { rows = d .rows; well = d .well })
 
 -- ---- call after call
 
@@ -96,12 +97,12 @@ behind-all h count t i t′ b k =
 by-refusal : (s : List ℕ) (t : Table) (x : Reading) → toTell x .done ≡ false → see t ≡ playedBy s t x
 unfolding playedBy toTell
 by-refusal s t (accepted h n) e = let z : _≡_ {A = ℕ} 0 1 = cc in absurd (omega arith)
-by-refusal s t (rejected f p) e = refl
+by-refusal s t (rejected f p b) e = refl
 
 by-record : (s after : List ℕ) (t : Table) (x : Reading) → toTell x .done ≡ true → Holds x after → rowsOf (headerIn after) (length (userData s)) t (headerIn after .blocks .count) ≡ playedBy s t x
 unfolding playedBy toTell Holds
 by-record s after t (accepted h n) e k = ap (λ (y : Header). rowsOf y (length (userData s)) t (y .blocks .count)) k
-by-record s after t (rejected f p) e k = let z : _≡_ {A = ℕ} 0 1 = cc in absurd (omega arith)
+by-record s after t (rejected f p b) e k = let z : _≡_ {A = ℕ} 0 1 = cc in absurd (omega arith)
 
 module _ (s : List ℕ) (t : Table) (r : HeaderRead) (e : told r ≡ toTell (reading s)) where
   pub played-refused : outcomeDone (r .outcome) ≡ false → see t ≡ played t s

@@ -30,7 +30,7 @@ rowsOf h count t n = pick (wellFormed t) (after h count (see t) n) (see t)
 -- a datagram's rows: all its blocks' calls where it is accepted, no call where it is refused
 unfoldable pub playedBy : List ℕ → Table → Reading → Rows
 playedBy s t (accepted h n) = rowsOf h (length (userData s)) t (h .blocks .count)
-playedBy s t (rejected f p) = see t
+playedBy s t (rejected f p b) = see t
 
 abbrev pub played : Table → List ℕ → Rows
 played t s = playedBy s t (reading s)

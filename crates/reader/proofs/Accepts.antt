@@ -1,5 +1,5 @@
 -- The reading, way by way: each refusal where its check fails and no earlier one does, and what is known of an accepted datagram. Assumes nothing.
-use Prim.Native.Nat.{ℕ, _-_, _<_, _≤_}
+use Prim.Native.Nat.{ℕ, zero, suc, _-_, _<_, _≤_}
 use mathlib.Core.Path.{_≡_, refl, ap, sym, _∙_}
 use mathlib.Core.Bool.{Bool, true, false}
 use mathlib.Core.List.{List, []}
@@ -19,16 +19,17 @@ use Rattle.codec.specs.declared.Step.{Step}
 use Rattle.codec.proofs.Step as step
 use Rattle.codec.proofs.Lawful.{read-within}
 use Rattle.header.specs.Table.{wire}
-use Rattle.header.specs.Rules.{rulesKept}
+use Rattle.codec.specs.Verdict.{Verdict, whether}
+use Rattle.header.specs.declared.Header.{Header}
 use Rattle.header.specs.declared.Wire.{Wire}
 use Rattle.header.proofs.Lawful.{wire-lawful}
-use Rattle.reader.specs.Reading.{Reading, accepted, rejected, recordOf, readFill, sizesHold, settled, filled, judged, reading, behindHeader, userData}
+use Rattle.reader.specs.Reading.{Reading, accepted, rejected, recordOf, readFill, verdictOn, acceptedBy, settled, filled, judged, reading, behindHeader, userData}
 use Rattle.reader.specs.Told.{Told, told, toTell, stoppedBy, outcomeDone}
 use Rattle.reader.specs.declared.HeaderRead.{HeaderRead}
 use Rattle.reader.specs.declared.Outcome.{Outcome}
 use Rattle.reader.proofs.Outcome as outcome
 
-pub reading-long : (s : List ℕ) → datagramLimit < length s → reading s ≡ rejected 12 0
+pub reading-long : (s : List ℕ) → datagramLimit < length s → reading s ≡ rejected 12 0 0
 unfolding reading
 reading-long s h = rw (lt-leb (length s) datagramLimit h)
 
@@ -61,14 +62,17 @@ module _ (s : List ℕ) (short : length s ≤ datagramLimit) (st : Step) (w : Wi
   reading-settled (Step.Refused f q) h t = absurd (omega arith)
 
 -- an accepted header's octets are octets of the datagram
-settled-within : (w : Wire) (octets behind n : ℕ) → octets ≤ n → toTell (settled w octets behind) .octets ≤ n
-unfolding settled toTell
-settled-within w octets behind n h = go (rulesKept (recordOf w)) (sizesHold w octets behind)
+accepted-within : (v : Verdict) (h : Header) (octets n : ℕ) → octets ≤ n → toTell (acceptedBy v h octets) .octets ≤ n
+unfolding acceptedBy toTell
+accepted-within v h octets n l = go (v .number)
   where
-    go : (a b : Bool) → toTell (pick a (pick b (accepted (recordOf w) octets) (rejected 10 0)) (rejected 8 0)) .octets ≤ n
-    go true true = h
-    go true false = omega arith
-    go false b = omega arith
+    go : (k : ℕ) → toTell (whether k (accepted h octets) (rejected (v .number) 0 (v .block))) .octets ≤ n
+    go zero = l
+    go (suc k) = omega arith
+
+settled-within : (w : Wire) (octets behind n : ℕ) → octets ≤ n → toTell (settled w octets behind) .octets ≤ n
+unfolding settled
+settled-within w octets behind n h = accepted-within (verdictOn (recordOf w) (w .size) octets behind) (recordOf w) octets n h
 
 filled-within : (s : List ℕ) (w : Wire) (end : ℕ) (a : Answer Bool) → wholeOctets end ≤ length s → toTell (filled s w end a) .octets ≤ length s
 unfolding filled toTell
@@ -84,7 +88,7 @@ pub reading-within : (s : List ℕ) → toTell (reading s) .octets ≤ length s
 unfolding reading toTell
 reading-within s = go (leb (length s) datagramLimit)
   where
-    go : (b : Bool) → toTell (pick b (judged s (wire .read (bitsOf s) 0)) (rejected 12 0)) .octets ≤ length s
+    go : (b : Bool) → toTell (pick b (judged s (wire .read (bitsOf s) 0)) (rejected 12 0 0)) .octets ≤ length s
     go true = judged-within s (wire .read (bitsOf s) 0) refl
     go false = omega arith
 
@@ -92,22 +96,22 @@ reading-within s = go (leb (length s) datagramLimit)
 behind-done : (s : List ℕ) (x : Reading) → toTell x .done ≡ true → behindHeader s x ≡ drop (toTell x .octets) s
 unfolding behindHeader toTell
 behind-done s (accepted h n) e = refl
-behind-done s (rejected f p) e = let z : _≡_ {A = ℕ} 0 1 = cc in absurd (omega arith)
+behind-done s (rejected f p b) e = let z : _≡_ {A = ℕ} 0 1 = cc in absurd (omega arith)
 
 behind-refused : (s : List ℕ) (x : Reading) → toTell x .done ≡ false → behindHeader s x ≡ []
 unfolding behindHeader toTell
 behind-refused s (accepted h n) e = let z : _≡_ {A = ℕ} 0 1 = cc in absurd (omega arith)
-behind-refused s (rejected f p) e = refl
+behind-refused s (rejected f p b) e = refl
 
 pub outcome-done : (x : Outcome) → tagOf outcome.the-type x ≡ 0 → outcomeDone x ≡ true
 unfolding outcomeDone
 outcome-done Outcome.Done e = refl
-outcome-done (Outcome.Refused f p) e = absurd (omega arith)
+outcome-done (Outcome.Refused f p b) e = absurd (omega arith)
 
 pub outcome-refused : (x : Outcome) → tagOf outcome.the-type x ≡ 1 → outcomeDone x ≡ false
 unfolding outcomeDone
 outcome-refused Outcome.Done e = absurd (omega arith)
-outcome-refused (Outcome.Refused f p) e = refl
+outcome-refused (Outcome.Refused f p b) e = refl
 
 -- the part of the datagram that is handed back
 module _ (s : List ℕ) (r : HeaderRead) (e : told r ≡ toTell (reading s)) where

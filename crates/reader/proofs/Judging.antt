@@ -1,67 +1,37 @@
--- The rules and the sizes, in their order: the verdict on them, and what the reading makes of it. Assumes nothing.
-use Prim.Native.Nat.{ℕ}
+-- The rules and the sizes: what the reading makes of the verdict on them. Assumes nothing.
+use Prim.Native.Nat.{ℕ, zero, suc, _<_}
 use mathlib.Core.Path.{_≡_, refl, ap, sym, _∙_}
-use mathlib.Core.Bool.{Bool, true, false, _&&_}
-use lib.Dec.{eqb}
 use native.Mathlib.Omega.{arith}
 use denote.Enum.Declared.{tagOf}
-use Rattle.codec.specs.Answer.{pick}
-use Rattle.codec.specs.Refusals.{checkNo}
-use Rattle.codec.specs.declared.Check.{Check}
-use Rattle.codec.proofs.Check as check
+use Rattle.codec.specs.Refusals.{faultNo, findingSays}
+use Rattle.codec.specs.Verdict.{Verdict}
+use Rattle.codec.specs.declared.BlockNumber.{BlockNumber}
+use Rattle.codec.specs.declared.Fault.{Fault}
+use Rattle.codec.specs.declared.Finding.{Finding}
+use Rattle.codec.proofs.Finding as finding
 use Rattle.codec.proofs.Told.{fault-positive}
-use Rattle.header.specs.Rules.{_⇒_, all, rules, usedBlocks, settingOf, rulesKept}
-use Rattle.rules.proofs.Over.{all-swap}
-use Rattle.header.specs.Sizes.{sizesRight}
 use Rattle.header.specs.declared.Header.{Header}
 use Rattle.header.specs.declared.Wire.{Wire}
-use Rattle.optional.specs.declared.OptionalNumber.{OptionalNumber}
-use Rattle.reader.specs.Reading.{Reading, recordOf, sizesHold, settled, judgedNo, failedBy, accepted, rejected}
+use Rattle.reader.specs.Reading.{Reading, recordOf, verdictOn, acceptedBy, settled, accepted, rejected}
 
-module _ (h : Header) (size : OptionalNumber) (octets behind : ℕ) (kept right : Bool) (rule : kept ≡ all (λ b. all (λ r. r (settingOf h) b) rules) (usedBlocks (h .blocks))) where
-  kept-is : kept ≡ rulesKept h
-  unfolding rulesKept
-  kept-is = rule ∙ sym (all-swap rules (settingOf h) (usedBlocks (h .blocks)))
+fine-accepts : (x : Finding) (v : Verdict) (h : Header) (n : ℕ) → findingSays x ≡ v → tagOf finding.the-type x ≡ 0 → acceptedBy v h n ≡ accepted h n
+unfolding acceptedBy findingSays
+fine-accepts Finding.Fine v h n e t = rw (← e)
+fine-accepts (Finding.Bad f b) v h n e t = absurd (omega arith)
 
-  pub judged-rule : kept ≡ false → 8 ≡ judgedNo h size octets behind
-  unfolding judgedNo
-  judged-rule e = let z = sym kept-is ∙ e in rw z
+bad-rejects : (f : Fault) (b : BlockNumber) (x : Finding) (v : Verdict) (h : Header) (n : ℕ) → findingSays x ≡ v → x ≡ Finding.Bad f b → acceptedBy v h n ≡ rejected (faultNo f) 0 (b .0)
+unfolding acceptedBy findingSays
+bad-rejects f b x v h n e g = rw (← e, g) (go (faultNo f) (fault-positive f))
+  where
+    go : (k : ℕ) → 0 < k → acceptedBy (record { number = k; block = b .0 }) h n ≡ rejected k 0 (b .0)
+    go zero l = absurd (omega arith)
+    go (suc k) l = refl
 
-  module _ (fits : right ≡ (size .present ⇒ eqb (size .value) octets) && sizesRight (h .blocks) behind) (k : kept ≡ true) where
-    pub judged-size : right ≡ false → 10 ≡ judgedNo h size octets behind
-    unfolding judgedNo
-    judged-size e = let z = sym kept-is ∙ k in let y = sym fits ∙ e in rw (z, y)
+module _ (w : Wire) (octets behind : ℕ) (x : Finding) (e : findingSays x ≡ verdictOn (recordOf w) (w .size) octets behind) where
+  pub settled-right : tagOf finding.the-type x ≡ 0 → settled w octets behind ≡ accepted (recordOf w) octets
+  unfolding settled
+  settled-right t = fine-accepts x _ (recordOf w) octets e t
 
-    pub judged-fine : right ≡ true → 0 ≡ judgedNo h size octets behind
-    unfolding judgedNo
-    judged-fine e = let z = sym kept-is ∙ k in let y = sym fits ∙ e in rw (z, y)
-
--- what a verdict's number tells, by the outcomes of the two tests
-fine-accepts : (a b : Bool) (v : Check) (x : Reading) → checkNo v ≡ pick a (pick b 0 10) 8 → tagOf check.the-type v ≡ 0 → pick a (pick b x (rejected 10 0)) (rejected 8 0) ≡ x
-unfolding checkNo
-fine-accepts a b (Check.Bad f) x e t = absurd (omega arith)
-fine-accepts true true Check.Fine x e t = refl
-fine-accepts true false Check.Fine x e t = absurd (omega arith)
-fine-accepts false b Check.Fine x e t = absurd (omega arith)
-
-bad-fails : (a b : Bool) (v : Check) (x : Reading) → checkNo v ≡ pick a (pick b 0 10) 8 → tagOf check.the-type v ≡ 1 → pick a (pick b x (rejected 10 0)) (rejected 8 0) ≡ failedBy v
-unfolding checkNo failedBy
-bad-fails a b Check.Fine x e t = absurd (omega arith)
-bad-fails true true (Check.Bad f) x e t = absurd (omega (arith, fault-positive f))
-bad-fails true false (Check.Bad f) x e t = ap (λ (n : ℕ). rejected n 0) (sym e)
-bad-fails false b (Check.Bad f) x e t = ap (λ (n : ℕ). rejected n 0) (sym e)
-
--- the refusal of a verdict that is fine
-pub fine-fails : (v : Check) → tagOf check.the-type v ≡ 0 → rejected 8 0 ≡ failedBy v
-unfolding failedBy
-fine-fails Check.Fine t = refl
-fine-fails (Check.Bad f) t = absurd (omega arith)
-
-module _ (w : Wire) (octets behind : ℕ) (v : Check) (e : checkNo v ≡ judgedNo (recordOf w) (w .size) octets behind) where
-  pub settled-right : tagOf check.the-type v ≡ 0 → settled w octets behind ≡ accepted (recordOf w) octets
-  unfolding settled judgedNo
-  settled-right t = fine-accepts (rulesKept (recordOf w)) (sizesHold w octets behind) v (accepted (recordOf w) octets) e t
-
-  pub settled-failed : tagOf check.the-type v ≡ 1 → settled w octets behind ≡ failedBy v
-  unfolding settled judgedNo
-  settled-failed t = bad-fails (rulesKept (recordOf w)) (sizesHold w octets behind) v (accepted (recordOf w) octets) e t
+  pub settled-failed : (f : Fault) (b : BlockNumber) → x ≡ Finding.Bad f b → settled w octets behind ≡ rejected (faultNo f) 0 (b .0)
+  unfolding settled
+  settled-failed f b t = bad-rejects f b x _ (recordOf w) octets e t

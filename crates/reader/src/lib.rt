@@ -2,31 +2,32 @@
 ghost use mathlib.Core.Path.{_≡_};
 ghost use lib.Dec.{eqb};
 ghost use lib.ListN.{length};
-ghost use Rattle.codec.specs.Refusals.{checkNo, faultNo};
+ghost use Rattle.codec.specs.Refusals.{faultNo, findingSays};
 ghost use Rattle.header.specs.Rules.{_⇒_};
 ghost use Rattle.cells.specs.Cells.{zeros};
 ghost use Rattle.record_octets.specs.Record.{sizeOfHeader, headerIn};
-ghost use Rattle.reader.specs.Reading.{reading, rejected, judgedNo, failedBy, userData};
+ghost use Rattle.reader.specs.Reading.{reading, rejected, verdictOn, userData};
 ghost use Rattle.reader.specs.Told.{told, toTell, recordAfter, Holds, Fills, stoppedBy};
 use bits::BitPlace;
 use bits::OctetSize;
-use codec::Check;
+use codec::BlockNumber;
 use codec::Fault;
+use codec::Finding;
 use codec::Step;
 use leaves::setting::setting_of;
 use optional::OptionalNumber;
 use record_octets::RECORD;
 use record_octets::in_header;
-use rules::rule::both;
 use rules::seen::see_blocks;
 
 pub mod fill;
 pub mod wire;
 
-// How a reading ended: done, or refused with the kind of fault and the bit place.
+// How a reading ended: done, or refused with the kind of fault, the bit place and the block, 0 where the refusal is
+// about none.
 pub enum Outcome {
     Done,
-    Refused(Fault, BitPlace),
+    Refused(Fault, BitPlace, BlockNumber),
 }
 
 // A reading's outcome and the header's length; refused, the length is 0.
@@ -36,11 +37,11 @@ pub struct HeaderRead {
 }
 
 // A refusal.
-fn refusal(fault: Fault, place: BitPlace) -> HeaderRead
-    ensures { λ r. ⌜ told r ≡ toTell (rejected (faultNo fault) (place .0)) ⌝ }
+fn refusal(fault: Fault, place: BitPlace, block: BlockNumber) -> HeaderRead
+    ensures { λ r. ⌜ told r ≡ toTell (rejected (faultNo fault) (place .0) (block .0)) ⌝ }
 {
     HeaderRead {
-        outcome: Outcome::Refused(fault, place),
+        outcome: Outcome::Refused(fault, place, block),
         length: OctetSize(0),
     }
 }
@@ -50,18 +51,8 @@ fn stopped(step: Step) -> HeaderRead
     ensures { λ r. ⌜ told r ≡ toTell (stoppedBy step) ⌝ }
 {
     match step {
-        Step::Refused(fault, place) => refusal(fault, place),
-        Step::Next(place) => refusal(Fault::Short, place),
-    }
-}
-
-// The refusal that a verdict on the fields ended with.
-fn failed(verdict: Check) -> HeaderRead
-    ensures { λ r. ⌜ told r ≡ toTell (failedBy verdict) ⌝ }
-{
-    match verdict {
-        Check::Bad(fault) => refusal(fault, BitPlace(0)),
-        Check::Fine => refusal(Fault::Rule, BitPlace(0)),
+        Step::Refused(fault, place) => refusal(fault, place, BlockNumber(0)),
+        Step::Next(place) => refusal(Fault::Short, place, BlockNumber(0)),
     }
 }
 
@@ -77,31 +68,23 @@ fn size_holds(size: OptionalNumber, length: OctetSize) -> bool
 }
 
 // Behind the fill bits: the rules, then the sizes.
-fn judge(h: &[u8], size: OptionalNumber, octets: OctetSize, behind: OctetSize) -> Check
+fn judge(h: &[u8], size: OptionalNumber, octets: OctetSize, behind: OctetSize) -> Finding
     requires { ⌜ length (now h) ≡ sizeOfHeader ⌝ }
-    ensures { λ r. ⌜ checkNo r ≡ judgedNo (headerIn (now (h .entry))) size (octets .0) (behind .0) ⌝ }
+    ensures { λ r. ⌜ findingSays r ≡ verdictOn (headerIn (now (h .entry))) size (octets .0) (behind .0) ⌝ }
 {
     let x = setting_of(h);
-    let seen = see_blocks(x, &h[in_header::BLOCKS..in_header::END], behind);
-    let kept = seen.kept;
-    if !kept {
-        return Check::Bad(Fault::Rule);
-    }
-    let right = both(size_holds(size, octets), seen.right);
-    if !right {
-        return Check::Bad(Fault::Size);
-    }
-    Check::Fine
+    let holds = size_holds(size, octets);
+    see_blocks(x, &h[in_header::BLOCKS..in_header::END], behind, holds)
 }
 
 // Reads a datagram into the octets of a record, which are all 0: the length first (12), then the fields from the left, the
-// fill bits (9), the rules (8) and the sizes (10).
+// fill bits (9), the rules (41 to 49) and the sizes (51 to 54).
 fn read_into(datagram: &[u8], h: &mut [u8]) -> HeaderRead
     requires { ⌜ (now h ≡ zeros sizeOfHeader) × (length (now h) ≡ sizeOfHeader) ⌝ }
     ensures { λ r. ⌜ (told r ≡ toTell (reading (now (datagram .entry)))) × Fills (reading (now (datagram .entry))) (now (h .exit)) ⌝ }
 {
     if 65507 < datagram.len() {
-        return refusal(Fault::TooLong, BitPlace(0));
+        return refusal(Fault::TooLong, BitPlace(0), BlockNumber(0));
     }
     let a = wire::read_fields(datagram, BitPlace(0), h);
     let step = a.step;
@@ -115,14 +98,14 @@ fn read_into(datagram: &[u8], h: &mut [u8]) -> HeaderRead
     let length = bits::whole_octets(end);
     let behind = OctetSize(datagram.len() - length.0);
     let size = a.size;
-    let verdict = judge(h, size, length, behind);
-    let Check::Fine = verdict else {
-        return failed(verdict);
+    let finding = judge(h, size, length, behind);
+    let Finding::Bad(fault, block) = finding else {
+        return HeaderRead {
+            outcome: Outcome::Done,
+            length: length,
+        };
     };
-    HeaderRead {
-        outcome: Outcome::Done,
-        length: length,
-    }
+    refusal(fault, BitPlace(0), block)
 }
 
 // Reads a datagram. Done, every octet of the record is determined: those of the record that was read, with each unused cell and

@@ -37,7 +37,7 @@ read-refused s before r after call bad = go (reading s) refl
   where
     go : (x : Reading) → reading s ≡ x → after ≡ before
     go (accepted h n) e = done-not (outcomeDone (r .outcome)) (ap (λ (t : Told). t .done) (call .tells ∙ ap toTell e)) bad
-    go (rejected f p) e = call .leaves ∙ ap (λ (x : Reading). recordAfter x before) e
+    go (rejected f p b) e = call .leaves ∙ ap (λ (x : Reading). recordAfter x before) e
 
 -- the record that the octets hold, and that they are its own
 pub record Took (s after : List ℕ) (n : ℕ) : Type 0 where
@@ -56,7 +56,7 @@ module _ (s before : List ℕ) (r : HeaderRead) (after : List ℕ) (call : Reads
             took = e ∙ ap₂ accepted (sym k) (sym (ap (λ (t : Told). t .octets) l));
             whole = call .leaves ∙ ap (λ (x : Reading). recordAfter x before) e ∙ ap headerOctets (sym k);
           }
-      go (rejected f p) e k = done-not (outcomeDone (r .outcome)) fine (ap (λ (t : Told). t .done) (call .tells ∙ ap toTell e))
+      go (rejected f p b) e k = done-not (outcomeDone (r .outcome)) fine (ap (λ (t : Told). t .done) (call .tells ∙ ap toTell e))
 
   pub read-clean : Clean after
   read-clean = record { whole = was-accepted .whole; unusedZero = unused-zero s (headerIn after) (r .length .0) (was-accepted .took) }

@@ -1,5 +1,5 @@
 -- What is known of an accepted datagram. Assumes nothing.
-use Prim.Native.Nat.{ℕ, _-_, _≤_}
+use Prim.Native.Nat.{ℕ, zero, suc, _-_, _≤_}
 use mathlib.Core.Path.{_≡_, refl}
 use mathlib.Core.Bool.{Bool, true, false}
 use mathlib.Core.List.{List}
@@ -10,13 +10,18 @@ use native.Mathlib.Omega.{arith}
 use Rattle.bits.specs.Bits.{bitsOf}
 use Rattle.bits.specs.Units.{wholeOctets, fillBits, datagramLimit}
 use Rattle.codec.specs.Answer.{Answer, got, refused, pick}
-use Rattle.codec.proofs.Fields.{and-left, and-right}
+use Rattle.codec.specs.Verdict.{Verdict, plain, whether}
+use Rattle.codec.proofs.Verdicts.{first-fine}
 use Rattle.header.specs.Table.{wire}
-use Rattle.header.specs.Rules.{_⇒_, rulesKept}
-use Rattle.header.specs.Sizes.{sizesRight}
+use Rattle.header.specs.Order.{inOrder}
+use Rattle.header.specs.Rules.{_⇒_, rules, settingOf, usedBlocks}
+use Rattle.header.specs.Sizes.{wrongSize, judgement}
+use Rattle.header.specs.declared.Blocks.{Blocks}
+use Rattle.header.specs.declared.Setting.{Setting}
 use Rattle.header.specs.declared.Header.{Header}
 use Rattle.header.specs.declared.Wire.{Wire}
-use Rattle.reader.specs.Reading.{accepted, rejected, recordOf, readFill, sizesHold, settled, filled, judged, reading}
+use Rattle.reader.specs.Reading.{accepted, rejected, recordOf, readFill, verdictOn, acceptedBy, settled, filled, judged, reading}
+use Rattle.writer.specs.Writing.{recordVerdict}
 
 -- what is known of an accepted datagram with a header of n octets
 pub record Accepted (s : List ℕ) (n : ℕ) : Type 0 where
@@ -28,35 +33,46 @@ pub record Accepted (s : List ℕ) (n : ℕ) : Type 0 where
   pub behind : ℕ
   pub got-fill : readFill (fillBits end) (bitsOf s) end ≡ got bit behind
   pub octets : n ≡ wholeOctets end
-  pub rules : rulesKept (recordOf held) ≡ true
   pub size : (held .size .present ⇒ eqb (held .size .value) n) ≡ true
-  pub sizes : sizesRight (held .blocks) (length s - n) ≡ true
+  pub right : recordVerdict (recordOf held) (length s - n) .number ≡ 0
 
 -- its record is the one that these bits hold
 abbrev pub Known : List ℕ → Header → ℕ → Type 0
 Known s h n = (a : Accepted s n) × (h ≡ recordOf (a .held))
 
-not-rejected : {f p n : ℕ} {h : Header} {X : Type 0} → rejected f p ≡ accepted h n → X
+not-rejected : {f p b n : ℕ} {h : Header} {X : Type 0} → rejected f p b ≡ accepted h n → X
 not-rejected e = let z : _≡_ {A = ℕ} 0 1 = cc in absurd (omega arith)
 
+-- where nothing is refused, the header size holds
+held-size : (holds : Bool) (x : Setting) (octets : ℕ) (g : Blocks) → judgement x holds octets g .number ≡ 0 → (holds ≡ true) × (judgement x true octets g .number ≡ 0)
+unfolding judgement wrongSize inOrder
+held-size true x octets g e = (refl, e)
+held-size false x octets g e =
+    let a = first-fine (inOrder (rules x) (usedBlocks g)) _ e in
+    let b = first-fine (plain 51) _ (a .1) .0 in
+    absurd (omega (arith, b))
+
 module _ (s : List ℕ) (h : Header) (n : ℕ) where
-  settled-accepted : (w : Wire) (octets behind : ℕ) → settled w octets behind ≡ accepted h n → (h ≡ recordOf w) × (n ≡ octets) × (rulesKept (recordOf w) ≡ true) × (sizesHold w octets behind ≡ true)
-  unfolding settled
-  settled-accepted w octets behind e = go (rulesKept (recordOf w)) (sizesHold w octets behind) e
+  accepted-by : (v : Verdict) (x : Header) (octets : ℕ) → acceptedBy v x octets ≡ accepted h n → (h ≡ x) × (n ≡ octets) × (v .number ≡ 0)
+  unfolding acceptedBy
+  accepted-by v x octets = go (v .number)
     where
-      go : (a b : Bool) → pick a (pick b (accepted (recordOf w) octets) (rejected 10 0)) (rejected 8 0) ≡ accepted h n → (h ≡ recordOf w) × (n ≡ octets) × (a ≡ true) × (b ≡ true)
-      go true true d = (cc, cc, refl, refl)
-      go true false d = not-rejected d
-      go false b d = not-rejected d
+      go : (k : ℕ) → whether k (accepted x octets) (rejected (v .number) 0 (v .block)) ≡ accepted h n → (h ≡ x) × (n ≡ octets) × (k ≡ 0)
+      go zero d = (cc, cc, refl)
+      go (suc k) d = not-rejected d
+
+  settled-accepted : (w : Wire) (octets behind : ℕ) → settled w octets behind ≡ accepted h n → (h ≡ recordOf w) × (n ≡ octets) × (verdictOn (recordOf w) (w .size) octets behind .number ≡ 0)
+  unfolding settled
+  settled-accepted w octets behind e = accepted-by (verdictOn (recordOf w) (w .size) octets behind) (recordOf w) octets e
 
   module _ (short : length s ≤ datagramLimit) (w : Wire) (end : ℕ) (g : wire .read (bitsOf s) 0 ≡ got w end) where
     filled-accepted : (a : Answer Bool) → readFill (fillBits end) (bitsOf s) end ≡ a → filled s w end a ≡ accepted h n → Known s h n
-    unfolding filled
+    unfolding filled verdictOn
     filled-accepted (refused f p) m e = not-rejected e
     filled-accepted (got b p) m e =
         let k = settled-accepted w (wholeOctets end) (length s - wholeOctets end) e in
         let o : n ≡ wholeOctets end = k .1 in
-        let x = k .3 in (
+        let x = held-size (w .size .present ⇒ eqb (w .size .value) (wholeOctets end)) (settingOf (recordOf w)) (length s - wholeOctets end) (w .blocks) (k .2) in (
           record {
             short = short;
             held = w;
@@ -66,9 +82,8 @@ module _ (s : List ℕ) (h : Header) (n : ℕ) where
             behind = p;
             got-fill = m;
             octets = o;
-            rules = k .2;
-            size = rw o (and-left (w .size .present ⇒ eqb (w .size .value) (wholeOctets end)) (sizesRight (w .blocks) (length s - wholeOctets end)) x);
-            sizes = rw o (and-right (w .size .present ⇒ eqb (w .size .value) (wholeOctets end)) (sizesRight (w .blocks) (length s - wholeOctets end)) x);
+            size = rw o (x .0);
+            right = rw o (x .1);
           },
           k .0,
         )
@@ -82,6 +97,6 @@ module _ (s : List ℕ) (h : Header) (n : ℕ) where
   unfolding reading
   accepted-parts e = go (leb (length s) datagramLimit) refl e
     where
-      go : (b : Bool) → leb (length s) datagramLimit ≡ b → pick b (judged s (wire .read (bitsOf s) 0)) (rejected 12 0) ≡ accepted h n → Known s h n
+      go : (b : Bool) → leb (length s) datagramLimit ≡ b → pick b (judged s (wire .read (bitsOf s) 0)) (rejected 12 0 0) ≡ accepted h n → Known s h n
       go true m d = judged-accepted (leb-true (length s) datagramLimit m) (wire .read (bitsOf s) 0) refl d
       go false m d = not-rejected d

@@ -19,14 +19,14 @@ use Rattle.codec.specs.Codec.{number, flag, nothing, present, viewed, _thenBy_}
 use Rattle.codec.proofs.Lawful.{read-back, behind}
 use Rattle.optional.specs.Optionals.{optionalNumber}
 use Rattle.header.specs.Table.{front, blocks, wire}
-use Rattle.header.specs.Rules.{_⇒_}
+use Rattle.header.specs.Rules.{_⇒_, settingOf}
 use Rattle.header.specs.Same.{headerNorm}
 use Rattle.header.specs.declared.Header.{Header}
 use Rattle.header.specs.declared.Wire.{Wire}
 use Rattle.header.proofs.Lawful.{wire-lawful}
 use Rattle.header.proofs.Same.{norm-same}
-use Rattle.header.proofs.Unused.{rules-norm, sizes-norm}
-use Rattle.reader.specs.Reading.{accepted, readFill, settled, filled, judged, reading, behindHeader}
+use Rattle.header.proofs.Unused.{same-setting, judgement-norm}
+use Rattle.reader.specs.Reading.{accepted, readFill, verdictOn, acceptedBy, settled, filled, judged, reading, behindHeader}
 use Rattle.writer.specs.Writing.{wireOf, fieldsEnd, headerSize, headerBits, headerOf, ValidRecord, done}
 use Rattle.writer.proofs.Parts.{wire-legal, size-bounded}
 use Rattle.writer.proofs.Packed.{fields-length, header-length}
@@ -80,10 +80,10 @@ module _ (h : Header) (count : ℕ) (valid : ValidRecord h count) where
         (ap (drop (fieldsEnd h)) all-bits ∙ drop-at (wire .write (wireOf h (headerSize h))) tail (fieldsEnd h) (fields-length h))
 
     settles : settled (wire .norm (wireOf h (headerSize h))) (headerSize h) (length (headerOf h ++ d) - headerSize h) ≡ accepted (headerNorm h) (headerSize h)
-    unfolding settled wire viewed _thenBy_ optionalNumber flag headerNorm
+    unfolding settled acceptedBy verdictOn wire viewed _thenBy_ optionalNumber flag headerNorm
     settles =
         let b : length (headerOf h ++ d) - headerSize h ≡ count = omega (arith, long) in
-        rw (b, rules-norm h, v .rules, size-filled (h .sized) (headerSize h), sizes-norm (h .front .version) (h .blocks) count, v .sizes)
+        rw (b, same-setting h, size-filled (h .sized) (headerSize h), judgement-norm (h .front .version) (settingOf h) true count (h .blocks), v .judged)
 
     pub reads-back : reading (headerOf h ++ d) ≡ accepted (headerNorm h) (headerSize h)
     unfolding reading judged filled

@@ -2,20 +2,22 @@
 -- document 01's sameness of two records. Assumes nothing else.
 use Prim.Native.Nat.{ℕ, zero, suc}
 use mathlib.Core.Path.{_≡_, refl, ap, sym, _∙_}
+use mathlib.Core.Bool.{true}
 use mathlib.Core.List.{List, _++_}
 use lib.ListN.{length, drop}
 use native.Mathlib.Omega.{arith}
 use Rattle.codec.specs.Codec.{first, viewed, _thenBy_}
+use Rattle.codec.specs.Verdict.{firstOf}
 use Rattle.codec.proofs.Lawful.{same-check, same-bits}
 use Rattle.header.specs.Table.{maybe, front, blocks, wire}
-use Rattle.header.specs.Rules.{rulesKept}
-use Rattle.header.specs.Sizes.{sizesRight}
+use Rattle.header.specs.Rules.{settingOf}
+use Rattle.header.specs.Sizes.{judgement}
 use Rattle.header.specs.Same.{Same, headerNorm}
 use Rattle.header.specs.declared.Header.{Header}
 use Rattle.header.proofs.Lawful.{wire-lawful}
 use Rattle.header.proofs.Same.{same-norm}
-use Rattle.header.proofs.Unused.{rules-norm, sizes-norm}
-use Rattle.writer.specs.Writing.{wireOf, fieldsEnd, headerSize, headerBits, headerOf, fieldsFault, faultOf, Writing, answered, done, rejected, checking, writing, outputAfter}
+use Rattle.header.proofs.Unused.{same-setting, judgement-norm}
+use Rattle.writer.specs.Writing.{wireOf, fieldsEnd, headerSize, headerBits, headerOf, fieldsFault, recordVerdict, faultOf, Writing, answered, done, rejected, checking, writing, outputAfter}
 use Rattle.writer.proofs.Parts.{size-legal, wire-legal, size-bounded}
 use Rattle.writer.proofs.Ways.{valid-fields}
 
@@ -23,6 +25,11 @@ use Rattle.writer.proofs.Ways.{valid-fields}
 fields-wire : (h : Header) → wire .check (wireOf h 0) ≡ fieldsFault h
 unfolding wire viewed _thenBy_ first
 fields-wire h = rw (size-legal (h .sized) 0 (omega arith))
+
+-- a record is judged as the same with its unused cells 0
+norm-verdict : (h : Header) (count : ℕ) → judgement (settingOf h) true count (headerNorm h .blocks) ≡ recordVerdict h count
+unfolding headerNorm
+norm-verdict h count = judgement-norm (h .front .version) (settingOf h) true count (h .blocks)
 
 module _ (x y : Header) (same : Same x y) where
   norms : headerNorm x ≡ headerNorm y
@@ -36,12 +43,11 @@ module _ (x y : Header) (same : Same x y) where
   same-fields : fieldsFault x ≡ fieldsFault y
   same-fields = sym (fields-wire x) ∙ same-check wire-lawful (wireOf x 0) (wireOf y 0) (wires 0) ∙ fields-wire y
 
-  same-rules : rulesKept x ≡ rulesKept y
-  same-rules = sym (rules-norm x) ∙ ap rulesKept norms ∙ rules-norm y
-
-  same-sizes : (count : ℕ) → sizesRight (x .blocks) count ≡ sizesRight (y .blocks) count
-  unfolding headerNorm
-  same-sizes count = sym (sizes-norm (x .front .version) (x .blocks) count) ∙ ap (λ (h : Header). sizesRight (h .blocks) count) norms ∙ sizes-norm (y .front .version) (y .blocks) count
+  same-verdict : (count : ℕ) → recordVerdict x count ≡ recordVerdict y count
+  same-verdict count = sym (clean-verdict x) ∙ ap (λ (h : Header). recordVerdict h count) norms ∙ clean-verdict y
+    where
+      clean-verdict : (h : Header) → recordVerdict (headerNorm h) count ≡ recordVerdict h count
+      clean-verdict h = rw (same-setting h) (norm-verdict h count)
 
   -- of a record whose fields are legal, the bits and the octets
   module _ (fine : fieldsFault x ≡ 0) where
@@ -59,42 +65,42 @@ module _ (x y : Header) (same : Same x y) where
         rw (b, same-end)
 
   -- the first refusal, and the octets where there is none
-  same-fault : (count : ℕ) → faultOf x count ≡ faultOf y count
-  unfolding faultOf first
+  pub same-fault : (count : ℕ) → faultOf x count ≡ faultOf y count
+  unfolding faultOf firstOf
   same-fault count = go (fieldsFault x) refl
     where
       go : (k : ℕ) → fieldsFault x ≡ k → faultOf x count ≡ faultOf y count
-      go zero e = rw (← same-fields, ← same-rules, ← (same-sizes count), ← (same-end e))
+      go zero e = rw (← same-fields, ← (same-verdict count), ← (same-end e))
       go (suc k) e = rw (← same-fields, e)
 
   module _ (count : ℕ) where
-    fine : faultOf x count ≡ 0 → fieldsFault x ≡ 0
+    fine : faultOf x count .number ≡ 0 → fieldsFault x ≡ 0
     fine = valid-fields x count
 
     pub same-checking : checking x count ≡ checking y count
     unfolding checking answered
-    same-checking = go (faultOf x count) refl
+    same-checking = go (faultOf x count .number) refl
       where
-        go : (k : ℕ) → faultOf x count ≡ k → checking x count ≡ checking y count
+        go : (k : ℕ) → faultOf x count .number ≡ k → checking x count ≡ checking y count
         go zero e = rw (← (same-fault count), ← (same-end (fine e)))
         go (suc k) e = rw (← (same-fault count), e)
 
     pub same-writing : (room : ℕ) → writing x count room ≡ writing y count room
-    unfolding writing answered first
-    same-writing room = go (faultOf x count) refl
+    unfolding writing answered firstOf
+    same-writing room = go (faultOf x count .number) refl
       where
-        go : (k : ℕ) → faultOf x count ≡ k → writing x count room ≡ writing y count room
+        go : (k : ℕ) → faultOf x count .number ≡ k → writing x count room ≡ writing y count room
         go zero e = rw (← (same-fault count), ← (same-end (fine e)))
         go (suc k) e = rw (← (same-fault count), e)
 
     pub same-output : (out : List ℕ) → outputAfter x (writing x count (length out)) out ≡ outputAfter y (writing y count (length out)) out
-    unfolding writing answered first outputAfter
-    same-output out = rw (← (same-writing (length out))) (go (faultOf x count) refl)
+    unfolding writing answered firstOf outputAfter
+    same-output out = rw (← (same-writing (length out))) (go (faultOf x count .number) refl)
       where
         by : (a : Writing) → headerOf x ≡ headerOf y → outputAfter x a out ≡ outputAfter y a out
         by (done n) e = ap (λ (l : List ℕ). l ++ drop n out) e
-        by (rejected f p) e = refl
+        by (rejected f p b) e = refl
 
-        go : (k : ℕ) → faultOf x count ≡ k → outputAfter x (writing x count (length out)) out ≡ outputAfter y (writing x count (length out)) out
+        go : (k : ℕ) → faultOf x count .number ≡ k → outputAfter x (writing x count (length out)) out ≡ outputAfter y (writing x count (length out)) out
         go zero e = by (writing x count (length out)) (same-header (fine e))
         go (suc k) e = rw e

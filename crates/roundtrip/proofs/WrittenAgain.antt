@@ -13,6 +13,7 @@ use Rattle.bits.specs.Bits.{bitsOf, splice, AllOctets}
 use Rattle.bits.specs.Units.{fillBits, datagramLimit}
 use Rattle.bits.proofs.Packing.{packed}
 use Rattle.codec.specs.Codec.{first, flag, nothing, present, viewed, _thenBy_}
+use Rattle.codec.specs.Verdict.{firstOf}
 use Rattle.codec.proofs.Lawful.{Accepted as Read}
 use Rattle.optional.specs.Optionals.{optionalNumber}
 use Rattle.header.specs.Table.{maybe, front, blocks, wire}
@@ -78,10 +79,10 @@ module _ (s : List ℕ) (octets : AllOctets s) (n : ℕ) where
     header = sym (ap (take n) begins ∙ take-at (headerOf (recordOf w)) (drop (headerSize (recordOf w)) s) n (header-octets (recordOf w) ∙ sized))
 
     valid : ValidRecord (recordOf w) (length s - n)
-    unfolding faultOf first
+    unfolding faultOf firstOf first
     valid =
         let p = wire-parts w (read .legal) in
-        rw (p .0, p .1, a .rules, a .sizes, le-leb (headerSize (recordOf w) + (length s - n)) datagramLimit (omega (arith, sized, within, a .short)))
+        rw (p .0, p .1, a .right, le-leb (headerSize (recordOf w) + (length s - n)) datagramLimit (omega (arith, sized, within, a .short)))
 
   module _ (h : Header) (e : reading s ≡ accepted h n) where
     known : Known s h n

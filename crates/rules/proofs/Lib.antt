@@ -1,3 +1,4 @@
 pub mod Over
+pub mod Firsts
 pub mod Shares
 pub mod Looks

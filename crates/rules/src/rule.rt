@@ -1,9 +1,9 @@
-// The rules: one function each, and all of them of a block.
+// The rules: one function each, and a block's rank among them.
 ghost use mathlib.Core.Path.{_≡_};
-ghost use mathlib.Core.Bool.{_&&_};
 ghost use lib.ListN.{length};
-ghost use Rattle.header.specs.Rules.{ruleA, ruleB, ruleC, ruleD, ruleE, ruleF, ruleG, ruleH, ruleI, rules, all};
+ghost use Rattle.header.specs.Rules.{ruleA, ruleB, ruleC, ruleD, ruleE, ruleF, ruleFHeader, ruleG, ruleH, ruleI, rules};
 ghost use Rattle.record_octets.specs.Record.{sizeOfBlock, blockIn};
+ghost use Rattle.rules.specs.Ranks.{rank, wholeRank};
 use header::Setting;
 use leaves::block::asks_acknowledge;
 use leaves::block::asks_machine;
@@ -79,19 +79,26 @@ fn rule_e(x: Setting, b: &[u8]) -> bool
     true
 }
 
-// Rule (f): of several blocks each has its size, and the header has its own.
+// Rule (f), of the record: of several blocks the header has its size.
+fn rule_f_header(x: Setting) -> bool
+    ensures { λ r. ⌜ r ≡ ruleFHeader x ⌝ }
+{
+    let several = x.several;
+    if several {
+        return x.sized;
+    }
+    true
+}
+
+// Rule (f), of a block: of several blocks each has its size.
 fn rule_f(x: Setting, b: &[u8]) -> bool
     requires { ⌜ length (now b) ≡ sizeOfBlock ⌝ }
     ensures { λ r. ⌜ r ≡ ruleF x (blockIn (now (b .entry))) ⌝ }
 {
     let several = x.several;
     if several {
-        let sized = x.sized;
-        if sized {
-            let size = message_size(b);
-            return size.present;
-        }
-        return false;
+        let size = message_size(b);
+        return size.present;
     }
     true
 }
@@ -143,27 +150,47 @@ fn rule_i(x: Setting, b: &[u8]) -> bool
     true
 }
 
-pub fn both(a: bool, b: bool) -> bool
-    ensures { λ r. ⌜ r ≡ a && b ⌝ }
+// How many rules a block keeps before the first that it breaks.
+pub fn rank_of(x: Setting, b: &[u8]) -> u32
+    requires { ⌜ length (now b) ≡ sizeOfBlock ⌝ }
+    ensures { λ r. ⌜ r ≡ rank (rules x) (blockIn (now (b .entry))) ⌝ }
 {
-    if a {
-        return b;
+    if !rule_a(x, b) {
+        return 0;
     }
-    false
+    if !rule_b(x, b) {
+        return 1;
+    }
+    if !rule_c(x, b) {
+        return 2;
+    }
+    if !rule_d(x, b) {
+        return 3;
+    }
+    if !rule_e(x, b) {
+        return 4;
+    }
+    if !rule_f(x, b) {
+        return 5;
+    }
+    if !rule_g(x, b) {
+        return 6;
+    }
+    if !rule_h(x, b) {
+        return 7;
+    }
+    if !rule_i(x, b) {
+        return 8;
+    }
+    9
 }
 
-// Every rule is kept by a block.
-pub fn keeps(x: Setting, b: &[u8]) -> bool
-    requires { ⌜ length (now b) ≡ sizeOfBlock ⌝ }
-    ensures { λ r. ⌜ r ≡ all (λ rule. rule x (blockIn (now (b .entry)))) rules ⌝ }
+// How many the record keeps as a whole: only (f) asks something of it.
+pub fn whole_rank(x: Setting) -> u32
+    ensures { λ r. ⌜ r ≡ wholeRank (rules x) ⌝ }
 {
-    let i = both(rule_i(x, b), true);
-    let h = both(rule_h(x, b), i);
-    let g = both(rule_g(x, b), h);
-    let f = both(rule_f(x, b), g);
-    let e = both(rule_e(x, b), f);
-    let d = both(rule_d(x, b), e);
-    let c = both(rule_c(x, b), d);
-    let rest = both(rule_b(x, b), c);
-    both(rule_a(x, b), rest)
+    if rule_f_header(x) {
+        return 9;
+    }
+    5
 }

@@ -2,28 +2,64 @@
 ghost use mathlib.Core.Path.{_≡_};
 ghost use mathlib.Core.Bool.{_&&_};
 ghost use Prim.Native.Nat.{_-_, min};
-ghost use lib.Dec.{leb, eqb};
 ghost use lib.ListN.{length};
-ghost use Rattle.codec.specs.Answer.{pick};
-ghost use Rattle.header.specs.Rules.{all, rules, usedBlocks};
-ghost use Rattle.header.specs.Sizes.{owns, sizesRight};
+ghost use Rattle.codec.specs.Refusals.{findingSays};
+ghost use Rattle.header.specs.Sizes.{judgement};
 ghost use Rattle.record_octets.specs.Record.{sizeOfBlock, blockIn, sizeOfBlocksList, blocksOf, sizeOfBlocks, blocksIn};
-use crate::rule::both;
-use crate::rule::keeps;
+ghost use Rattle.rules.specs.Sees.{Unseen, Sees, concluded};
+use crate::order::Broken;
+use crate::order::better;
+use crate::order::broken_rule;
+use crate::order::wrong_body;
+use crate::rule::rank_of;
+use crate::rule::whole_rank;
 use crate::sizes::alone_share;
-use crate::sizes::owns_rightly;
+use crate::sizes::body_rank;
 use crate::sizes::share;
 use bits::OctetSize;
 use cells::entry;
 use cells::load_word;
+use codec::BlockNumber;
+use codec::Fault;
+use codec::Finding;
 use header::Setting;
 use record_octets::in_blocks;
 
-// What the blocks so far show: they keep the rules; each owns what it may; the data octets that they leave.
+// What the blocks so far show: the first broken rule; the first body that is missing or may not be; whether the
+// data octets were enough for their sizes, and what they leave of them.
 pub struct Seen {
-    pub kept: bool,
-    pub right: bool,
+    pub rule: Broken,
+    pub body: Broken,
+    pub fits: bool,
     pub left: OctetSize,
+}
+
+// Before the first block: what the record breaks as a whole.
+pub fn unseen(x: Setting, octets: OctetSize) -> Seen
+    ensures { λ r. ⌜ Unseen x (octets .0) r ⌝ }
+{
+    let rank = whole_rank(x);
+    Seen {
+        rule: Broken {
+            rank: rank,
+            block: BlockNumber(0),
+        },
+        body: Broken {
+            rank: 2,
+            block: BlockNumber(0),
+        },
+        fits: true,
+        left: octets,
+    }
+}
+
+fn both(a: bool, b: bool) -> bool
+    ensures { λ r. ⌜ r ≡ a && b ⌝ }
+{
+    if a {
+        return b;
+    }
+    false
 }
 
 // What n octets leave of some; none where they are too few.
@@ -36,28 +72,41 @@ fn rest(left: OctetSize, n: OctetSize) -> OctetSize
     OctetSize(left.0 - n.0)
 }
 
-// A block behind those that were looked at.
-pub fn see(f: Seen, x: Setting, b: &[u8], alone: OctetSize) -> Seen
+// A block behind those that were looked at, by its number.
+pub fn see(f: Seen, x: Setting, b: &[u8], number: BlockNumber, alone: OctetSize) -> Seen
     requires { ⌜ length (now b) ≡ sizeOfBlock ⌝ }
-    ensures { λ r. ⌜ (r .kept ≡ f .kept && all (λ rule. rule x (blockIn (now (b .entry)))) rules) × (r .right ≡ (f .right && leb (pick (blockIn (now (b .entry)) .handling .size .present) (blockIn (now (b .entry)) .handling .size .value) (alone .0)) (f .left .0)) && owns (blockIn (now (b .entry)), pick (blockIn (now (b .entry)) .handling .size .present) (blockIn (now (b .entry)) .handling .size .value) (alone .0))) × (r .left .0 ≡ f .left .0 - pick (blockIn (now (b .entry)) .handling .size .present) (blockIn (now (b .entry)) .handling .size .value) (alone .0)) ⌝ }
+    ensures { λ r. ⌜ Sees x (alone .0) (number .0) (blockIn (now (b .entry))) f r ⌝ }
 {
-    let kept = both(f.kept, keeps(x, b));
+    let rule = better(f.rule, rank_of(x, b), number);
     let n = share(b, alone);
-    let fits = both(f.right, n.0 <= f.left.0);
-    let right = both(fits, owns_rightly(b, n));
+    let body = better(f.body, body_rank(b, n), number);
+    let fits = both(f.fits, n.0 <= f.left.0);
     let left = rest(f.left, n);
     Seen {
-        kept: kept,
-        right: right,
+        rule: rule,
+        body: body,
+        fits: fits,
         left: left,
     }
 }
 
-// Whether the blocks that were looked at, all there are, have right sizes: they have taken all the data octets.
-pub fn all_right(f: Seen) -> bool
-    ensures { λ r. ⌜ r ≡ f .right && eqb (f .left .0) 0 ⌝ }
+// What all blocks show: the first broken rule; then the header size, the sum of the sizes, the bodies. The sum is
+// right where the data octets were enough and none is left.
+pub fn conclude(f: Seen, holds: bool) -> Finding
+    ensures { λ r. ⌜ findingSays r ≡ concluded holds f ⌝ }
 {
-    both(f.right, f.left.0 == 0)
+    let rule = broken_rule(f.rule);
+    let Finding::Fine = rule else {
+        return rule;
+    };
+    if !holds {
+        return Finding::Bad(Fault::HeaderSize, BlockNumber(0));
+    }
+    let sums = both(f.fits, f.left.0 == 0);
+    if !sums {
+        return Finding::Bad(Fault::SizeSum, BlockNumber(0));
+    }
+    wrong_body(f.body)
 }
 
 // How many cells are used.
@@ -70,41 +119,34 @@ fn used_count(count: u32) -> usize
     count as usize
 }
 
-// What all blocks show: they keep the rules, and their sizes are right.
-pub struct Verdict {
-    pub kept: bool,
-    pub right: bool,
-}
-
-// The entries of a list of blocks in a setting, with so many octets of user data.
-fn see_entries(x: Setting, list: &[u8], held: u32, octets: OctetSize) -> Verdict
+// The entries of a list of blocks in a setting, with so many octets of user data; and whether the header size holds.
+fn see_entries(x: Setting, list: &[u8], held: u32, octets: OctetSize, holds: bool) -> Finding
     requires { ⌜ length (now list) ≡ sizeOfBlocksList ⌝ }
-    ensures { λ r. ⌜ (r .kept ≡ all (λ b. all (λ rule. rule x b) rules) (usedBlocks (blocksOf (now (list .entry)) held))) × (r .right ≡ sizesRight (blocksOf (now (list .entry)) held) (octets .0)) ⌝ }
+    ensures { λ r. ⌜ findingSays r ≡ judgement x holds (octets .0) (blocksOf (now (list .entry)) held) ⌝ }
 {
     let count = used_count(held);
     let alone = alone_share(count, octets);
-    let mut seen = Seen {
-        kept: true,
-        right: true,
-        left: octets,
-    };
+    let mut seen = unseen(x, octets);
     let mut i: usize = 0;
     while i < count {
-        seen = see(seen, x, entry(list, i, in_blocks::ENTRY), alone);
+        let b = entry(list, i, in_blocks::ENTRY);
         i += 1;
+        seen = see(seen, x, b, BlockNumber(i as u32), alone);
     }
-    let right = all_right(seen);
-    Verdict {
-        kept: seen.kept,
-        right: right,
-    }
+    conclude(seen, holds)
 }
 
-// The blocks of a record in a setting, with so many octets of user data.
-pub fn see_blocks(x: Setting, g: &[u8], octets: OctetSize) -> Verdict
+// The blocks of a record in a setting, with so many octets of user data; and whether the header size holds.
+pub fn see_blocks(x: Setting, g: &[u8], octets: OctetSize, holds: bool) -> Finding
     requires { ⌜ length (now g) ≡ sizeOfBlocks ⌝ }
-    ensures { λ r. ⌜ (r .kept ≡ all (λ b. all (λ rule. rule x b) rules) (usedBlocks (blocksIn (now (g .entry))))) × (r .right ≡ sizesRight (blocksIn (now (g .entry))) (octets .0)) ⌝ }
+    ensures { λ r. ⌜ findingSays r ≡ judgement x holds (octets .0) (blocksIn (now (g .entry))) ⌝ }
 {
     let count = load_word(&g[in_blocks::COUNT..in_blocks::END]);
-    see_entries(x, &g[in_blocks::LIST..in_blocks::COUNT], count, octets)
+    see_entries(
+        x,
+        &g[in_blocks::LIST..in_blocks::COUNT],
+        count,
+        octets,
+        holds,
+    )
 }

@@ -1,30 +1,31 @@
 // One look at the message blocks of a record where they lie: at each block's fields, the rules, its size and its bits.
 ghost use mathlib.Core.Path.{_≡_};
-ghost use mathlib.Core.Bool.{_&&_};
-ghost use Prim.Native.Nat.{_+_, _-_};
-ghost use lib.Dec.{leb, eqb};
+ghost use mathlib.Core.Bool.{true};
+ghost use Prim.Native.Nat.{_+_};
 ghost use lib.ListN.{length};
-ghost use Rattle.codec.specs.Answer.{pick};
-ghost use Rattle.codec.specs.Refusals.{checkNo};
+ghost use Rattle.codec.specs.Refusals.{checkNo, findingSays};
 ghost use Rattle.codec.specs.Writes.{Placed};
-ghost use Rattle.header.specs.Rules.{all, rules, usedBlocks};
-ghost use Rattle.header.specs.Sizes.{owns, sizesRight};
+ghost use Rattle.header.specs.Sizes.{judgement};
 ghost use Rattle.header.specs.Table.{block, blocks};
 ghost use Rattle.record_octets.specs.Record.{sizeOfBlock, blockIn, sizeOfBlocksList, blocksOf, sizeOfBlocks, blocksIn};
+ghost use Rattle.rules.specs.Sees.{Sees, concluded};
 use bits::BitPlace;
 use bits::OctetSize;
 use cells::entry;
 use cells::load_word;
 use checker::block::check_block;
+use codec::BlockNumber;
 use codec::Check;
 use codec::Fault;
+use codec::Finding;
 use ends::block::end_block;
 use flag::end_flag;
 use header::Setting;
 use record_octets::in_blocks;
 use rules::seen::Seen;
-use rules::seen::all_right;
+use rules::seen::conclude;
 use rules::seen::see;
+use rules::seen::unseen;
 use rules::sizes::alone_share;
 
 // What the blocks so far show of the rules and the sizes, and the place behind them.
@@ -33,21 +34,27 @@ pub struct Found {
     pub end: BitPlace,
 }
 
-// What all fields show: the first fault of one; where there is none, whether the rules are kept,
-// whether the sizes are right, and the place behind the blocks.
+// What all fields show: the first fault of one; where there is none, what the rules and the sizes say, and the place
+// behind the blocks.
 pub struct Survey {
     pub fault: Check,
-    pub kept: bool,
-    pub right: bool,
+    pub finding: Finding,
     pub end: BitPlace,
 }
 
-// A legal block of a record of that version, behind those that were looked at.
-fn look(f: Found, version: u32, x: Setting, b: &[u8], alone: OctetSize) -> Found
+// A legal block of a record of that version, by its number, behind those that were looked at.
+fn look(
+    f: Found,
+    version: u32,
+    x: Setting,
+    b: &[u8],
+    number: BlockNumber,
+    alone: OctetSize,
+) -> Found
     requires { ⌜ Placed (f .end .0) (1 + block version .size (blockIn (now b))) × (block version .check (blockIn (now b)) ≡ 0) × (length (now b) ≡ sizeOfBlock) ⌝ }
-    ensures { λ r. ⌜ (r .seen .kept ≡ f .seen .kept && all (λ rule. rule x (blockIn (now (b .entry)))) rules) × (r .seen .right ≡ (f .seen .right && leb (pick (blockIn (now (b .entry)) .handling .size .present) (blockIn (now (b .entry)) .handling .size .value) (alone .0)) (f .seen .left .0)) && owns (blockIn (now (b .entry)), pick (blockIn (now (b .entry)) .handling .size .present) (blockIn (now (b .entry)) .handling .size .value) (alone .0))) × (r .seen .left .0 ≡ f .seen .left .0 - pick (blockIn (now (b .entry)) .handling .size .present) (blockIn (now (b .entry)) .handling .size .value) (alone .0)) × (r .end .0 ≡ (f .end .0 + 1) + block version .size (blockIn (now (b .entry)))) ⌝ }
+    ensures { λ r. ⌜ Sees x (alone .0) (number .0) (blockIn (now (b .entry))) (f .seen) (r .seen) × (r .end .0 ≡ (f .end .0 + 1) + block version .size (blockIn (now (b .entry)))) ⌝ }
 {
-    let seen = see(f.seen, x, b, alone);
+    let seen = see(f.seen, x, b, number, alone);
     let behind = end_flag(f.end);
     let end = end_block(behind, version, b);
     Found {
@@ -62,22 +69,20 @@ pub fn broken_off(fault: Check) -> Survey
 {
     Survey {
         fault: fault,
-        kept: false,
-        right: false,
+        finding: Finding::Fine,
         end: BitPlace(0),
     }
 }
 
-// The survey of legal blocks, which have taken all the data octets or not.
+// The survey of legal blocks. The header size is written as it has to be, so that it holds.
 fn complete(f: Found) -> Survey
-    ensures { λ r. ⌜ (checkNo (r .fault) ≡ 0) × (r .kept ≡ f .seen .kept) × (r .right ≡ f .seen .right && eqb (f .seen .left .0) 0) × (r .end ≡ f .end) ⌝ }
+    ensures { λ r. ⌜ (checkNo (r .fault) ≡ 0) × (findingSays (r .finding) ≡ concluded true (f .seen)) × (r .end ≡ f .end) ⌝ }
 {
-    let right = all_right(f.seen);
+    let finding = conclude(f.seen, true);
     let end = f.end;
     Survey {
         fault: Check::Fine,
-        kept: f.seen.kept,
-        right: right,
+        finding: finding,
         end: end,
     }
 }
@@ -93,7 +98,7 @@ fn survey_entries(
     at: BitPlace,
 ) -> Survey
     requires { ⌜ Placed (at .0) 53056 × (length (now list) ≡ sizeOfBlocksList) ⌝ }
-    ensures { λ r. ⌜ (checkNo (r .fault) ≡ blocks version .check (blocksOf (now (list .entry)) held)) × (blocks version .check (blocksOf (now (list .entry)) held) ≡ 0 → (r .kept ≡ all (λ b. all (λ rule. rule x b) rules) (usedBlocks (blocksOf (now (list .entry)) held))) × (r .right ≡ sizesRight (blocksOf (now (list .entry)) held) (octets .0)) × (r .end .0 ≡ at .0 + blocks version .size (blocksOf (now (list .entry)) held))) ⌝ }
+    ensures { λ r. ⌜ (checkNo (r .fault) ≡ blocks version .check (blocksOf (now (list .entry)) held)) × (blocks version .check (blocksOf (now (list .entry)) held) ≡ 0 → (findingSays (r .finding) ≡ judgement x true (octets .0) (blocksOf (now (list .entry)) held)) × (r .end .0 ≡ at .0 + blocks version .size (blocksOf (now (list .entry)) held))) ⌝ }
 {
     let count = held as usize;
     if 16 < count {
@@ -104,11 +109,7 @@ fn survey_entries(
     }
     let alone = alone_share(count, octets);
     let mut found = Found {
-        seen: Seen {
-            kept: true,
-            right: true,
-            left: octets,
-        },
+        seen: unseen(x, octets),
         end: at,
     };
     let mut i: usize = 0;
@@ -118,8 +119,8 @@ fn survey_entries(
         let Check::Fine = c else {
             return broken_off(c);
         };
-        found = look(found, version, x, b, alone);
         i += 1;
+        found = look(found, version, x, b, BlockNumber(i as u32), alone);
     }
     complete(found)
 }
@@ -127,7 +128,7 @@ fn survey_entries(
 // The blocks of a record of that version.
 pub fn survey_blocks(version: u32, x: Setting, g: &[u8], octets: OctetSize, at: BitPlace) -> Survey
     requires { ⌜ Placed (at .0) 53056 × (length (now g) ≡ sizeOfBlocks) ⌝ }
-    ensures { λ r. ⌜ (checkNo (r .fault) ≡ blocks version .check (blocksIn (now (g .entry)))) × (blocks version .check (blocksIn (now (g .entry))) ≡ 0 → (r .kept ≡ all (λ b. all (λ rule. rule x b) rules) (usedBlocks (blocksIn (now (g .entry))))) × (r .right ≡ sizesRight (blocksIn (now (g .entry))) (octets .0)) × (r .end .0 ≡ at .0 + blocks version .size (blocksIn (now (g .entry))))) ⌝ }
+    ensures { λ r. ⌜ (checkNo (r .fault) ≡ blocks version .check (blocksIn (now (g .entry)))) × (blocks version .check (blocksIn (now (g .entry))) ≡ 0 → (findingSays (r .finding) ≡ judgement x true (octets .0) (blocksIn (now (g .entry)))) × (r .end .0 ≡ at .0 + blocks version .size (blocksIn (now (g .entry))))) ⌝ }
 {
     let count = load_word(&g[in_blocks::COUNT..in_blocks::END]);
     survey_entries(

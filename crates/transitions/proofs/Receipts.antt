@@ -11,10 +11,9 @@ use lib.Dec.{lit<, eqb}
 use borrow.Author.Tests.{eq-eqb}
 use native.Mathlib.Omega.{arith}
 use Rattle.codec.specs.Answer.{pick}
-use Rattle.codec.specs.Codec.{first}
+use Rattle.codec.specs.Verdict.{Verdict, plain, fine, firstOf}
 use Rattle.codec.proofs.ListLaws.{length-map}
-use Rattle.codec.proofs.Sequences.{first-zero}
-use Rattle.codec.proofs.Told.{first-refusal}
+use Rattle.codec.proofs.Verdicts.{first-some, first-fine}
 use Rattle.header.specs.Table.{address}
 use Rattle.header.specs.declared.Address.{Address as DeclaredAddress}
 use Rattle.order.specs.Values.{Address, addressOf, keyOf, byAddress, byKey}
@@ -23,7 +22,7 @@ use Rattle.order.specs.Requests.{Mark, settle, askOf}
 use Rattle.calls.specs.Machine.{step}
 use Rattle.calls.specs.Operations as theory
 use Rattle.calls.specs.Operations.{receipt}
-use Rattle.order.specs.Calls.{Operation, Row as Cells, written, reply, replied, mark, marked, rules, onTable}
+use Rattle.order.specs.Calls.{Operation, Call, Row as Cells, written, reply, replied, mark, marked, rules, onTable}
 use Rattle.order.specs.declared.Key.{Key as DeclaredKey}
 use Rattle.calls.proofs.Orders.{Order}
 use Rattle.order.proofs.Orders.{by-address, by-key}
@@ -41,7 +40,7 @@ use Rattle.table.proofs.Parts.{fine-table, fine-row, all-at}
 use Rattle.arguments.specs.Arguments.{named}
 use Rattle.transitions.proofs.OnValues.{OnValues}
 use Rattle.transitions.proofs.Marks.{settled-fine}
-use Rattle.transitions.proofs.Outcomes.{values-refused, values-done, values-kept, passed, acts, receipt-missing}
+use Rattle.transitions.proofs.Outcomes.{values-refused, values-done, values-kept, named-fine, passed, acts, receipt-missing}
 use Rattle.transitions.proofs.Ways.{held-there}
 
 -- what is found at a place is what is sought
@@ -113,18 +112,18 @@ module _ (row : Row) (fine : rowFine row ≡ true) (from : DeclaredAddress) (cod
 -- ---- what a receipt makes of a row
 
 module _ (w : Address) (r : Cells) where
-  patched-written : (x : Option Mark) → theory.patched rules r (marked w r (written x)) ≡ (written x .0, tt, some (r .0, mark w (written x .1) (r .1)))
+  patched-written : (x : Option Mark) → theory.patched rules r (marked w r (written x)) ≡ (plain (written x .0), tt, some (r .0, mark w (written x .1) (r .1)))
   patched-written none = refl
   patched-written (some n) = refl
 
-  patched-reply : (c : ℕ) (o : Option Mark) → theory.patched rules r (marked w r (reply (r .0) c o)) ≡ (reply (r .0) c o .0, tt, some (r .0, mark w (reply (r .0) c o .1) (r .1)))
+  patched-reply : (c : ℕ) (o : Option Mark) → theory.patched rules r (marked w r (reply (r .0) c o)) ≡ (plain (reply (r .0) c o .0), tt, some (r .0, mark w (reply (r .0) c o .1) (r .1)))
   patched-reply c none = refl
   patched-reply c (some m) = patched-written (settle (r .0) c m)
 
 -- ---- the table
 
 module _ (t : Table) (well : wellFormed t ≡ true) (k : DeclaredKey) (from : Address) (code : ℕ) where
-  pub receipt-none : (at : ℕ) → Stopped byKey (keyOf k) (keysOf t) at false → OnValues (inr (receipt (keyOf k) (from, code))) t 26 t
+  pub receipt-none : (at : ℕ) → Stopped byKey (keyOf k) (keysOf t) at false → OnValues (inr (receipt (keyOf k) (from, code))) t (plain 26) t
   receipt-none at s = values-refused (receipt (keyOf k) (from, code)) t well 26 (lit< tt) (receipt-missing (keyOf k) (see t) from code (row-free t (keyOf k) at well s))
 
   module _ (at : ℕ) (d : Row) (s : Stopped byKey (keyOf k) (keysOf t) at true) where
@@ -132,25 +131,25 @@ module _ (t : Table) (well : wellFormed t ≡ true) (k : DeclaredKey) (from : Ad
     row = getD (t .rows) at d
 
     -- the call's outcome is the row's
-    outcome : onTable (inr (receipt (keyOf k) (from, code))) (see t) ≡ (replied from code (rowOf row .1) .0, put byKey (keyOf k) (some (rowOf row .1 .0, mark from (replied from code (rowOf row .1) .1) (rowOf row .1 .1))) (see t))
+    outcome : onTable (inr (receipt (keyOf k) (from, code))) (see t) ≡ (plain (replied from code (rowOf row .1) .0), put byKey (keyOf k) (some (rowOf row .1 .0, mark from (replied from code (rowOf row .1) .1) (rowOf row .1 .1))) (see t))
     unfolding onTable theory.onTable step
     outcome =
         let r : Cells = rowOf row .1 in
         let e = patched-reply from r code (find byAddress from (r .1)) in
         rw (row-held t (keyOf k) at d s) (λ i. (e i .0, put byKey (keyOf k) (e i .2) (see t)))
 
-    pub receipt-refused : (m : ℕ) → 0 < m → m ≡ replied from code (rowOf row .1) .0 → OnValues (inr (receipt (keyOf k) (from, code))) t m t
-    receipt-refused m l e = values-refused (receipt (keyOf k) (from, code)) t well m l (rw outcome e)
+    pub receipt-refused : (m : ℕ) → 0 < m → m ≡ replied from code (rowOf row .1) .0 → OnValues (inr (receipt (keyOf k) (from, code))) t (plain m) t
+    receipt-refused m l e = values-refused (receipt (keyOf k) (from, code)) t well m l (rw outcome (ap plain e))
 
     pub receipt-settled : (after : Row) (t′ : Table) → 0 ≡ replied from code (rowOf row .1) .0 → after .key ≡ row .key → rowOf after .1 ≡ (rowOf row .1 .0, mark from (replied from code (rowOf row .1) .1) (rowOf row .1 .1)) → rowFine after ≡ true →
-        t′ .count ≡ t .count → usedRows t′ ≡ set (usedRows t) at after → OnValues (inr (receipt (keyOf k) (from, code))) t 0 t′
+        t′ .count ≡ t .count → usedRows t′ ≡ set (usedRows t) at after → OnValues (inr (receipt (keyOf k) (from, code))) t fine t′
     receipt-settled after t′ e key cells good m u =
         let used : at < t .count = used-rows (t .count) (t .rows) (s .inside refl) in
         let j : keyOf (row .key) ≡ keyOf k = ap (λ (z : Row). keyOf (z .key)) (sym (getD-take (t .count) (t .rows) at d used)) ∙ found by-key (λ (z : Row). keyOf (z .key)) (keyOf k) (usedRows t) at d s in
         let i : keyOf (after .key) ≡ keyOf k = ap keyOf key ∙ j in
         let p : Stopped byKey (keyOf (after .key)) (keysOf t) at true = rw i s in
         let v = see-replaced t t′ at after p u ∙ λ z. put byKey (i z) (some (cells z)) (see t) in
-        values-done (receipt (keyOf k) (from, code)) t t′ well (rw outcome e) (rw outcome v) (replaced-well-formed t t′ at well after good p m u)
+        values-done (receipt (keyOf k) (from, code)) t t′ well (rw outcome (ap plain e)) (rw outcome v) (replaced-well-formed t t′ at well after good p m u)
       where
         used-rows : (m : ℕ) (l : List Row) → at < length (map (λ z. keyOf (z .key)) (take m l)) → at < m
         used-rows m l h = omega (arith, length-map (λ (z : Row). keyOf (z .key)) (take m l), length-take m l)
@@ -163,41 +162,41 @@ stored-again (x ∷ l) (suc i) d h = ap (λ m. x ∷ m) (stored-again l i d (ome
 
 -- ---- the whole call, from what the code has found: the place of the key, and what the row says
 
-module _ (t : Table) (cells : length (t .rows) ≡ 32) (k : DeclaredKey) (f : ℕ) (p : Position) (placed : wellFormed t ≡ true → Placed t k p) (from : Address) (code : ℕ) (told : ℕ) (e : told ≡ first (pick (wellFormed t) f 30) (pick (not (p .held)) 26 0)) where
+module _ (t : Table) (cells : length (t .rows) ≡ 32) (k : DeclaredKey) (f : Verdict) (p : Position) (placed : wellFormed t ≡ true → Placed t k p) (from : Address) (code : ℕ) (told : Verdict) (e : told ≡ firstOf (pick (wellFormed t) f (plain 30)) (plain (pick (not (p .held)) 26 0))) where
   abbrev asked : Operation
   asked = receipt (keyOf k) (from, code)
 
-  pub receipt-there : told ≡ 0 → (wellFormed t ≡ true) × (f ≡ 0) × (p .at < t .count) × (t .count ≤ 32) × Stopped byKey (keyOf k) (keysOf t) (p .at) true
+  pub receipt-there : told .number ≡ 0 → (wellFormed t ≡ true) × (f .number ≡ 0) × (p .at < t .count) × (t .count ≤ 32) × Stopped byKey (keyOf k) (keysOf t) (p .at) true
   receipt-there z =
-      let a = first-zero _ _ (sym e ∙ z) in
+      let a = first-fine _ _ (ap (λ (v : Verdict). v .number) (sym e) ∙ z) in
       let q = passed (wellFormed t) f (a .0) in
       let h = held-there (p .held) 26 (lit< tt) (a .1) in
       let g = placed (q .0) in
       (q .0, q .1, g .1 h, fine-table t (q .0) .fits, subst (Stopped byKey (keyOf k) (keysOf t) (p .at)) h (g .2))
 
   -- no row has the key, or the call was refused before
-  pub receipt-early : eqb told 0 ≡ false → OnValues (named f asked) t told t
-  unfolding first
-  receipt-early n = acts asked t f told t (λ l. e ∙ sym (first-refusal _ _ l)) (λ q. refl) (λ w z. by w z (p .held) refl)
+  pub receipt-early : eqb (told .number) 0 ≡ false → OnValues (named f asked) t told t
+  unfolding firstOf
+  receipt-early n = acts asked t f told t (λ l. e ∙ first-some _ _ l) (λ q. refl) (λ w z. by w z (p .held) refl)
     where
-      by : wellFormed t ≡ true → f ≡ 0 → (h : Bool) → p .held ≡ h → OnValues (inr asked) t told t
-      by w z true h = let m : told ≡ 0 = e ∙ rw (w, z, h) in absurd (false≢true (sym n ∙ eq-eqb told 0 m))
-      by w z false h = let m : told ≡ 26 = e ∙ rw (w, z, h) in values-kept (inr asked) t t 26 told m refl (receipt-none t w k from code (p .at) (subst (Stopped byKey (keyOf k) (keysOf t) (p .at)) h (placed w .2)))
+      by : wellFormed t ≡ true → f .number ≡ 0 → (h : Bool) → p .held ≡ h → OnValues (inr asked) t told t
+      by w z true h = let m : told ≡ fine = e ∙ rw (w, z, h) in absurd (false≢true (sym n ∙ eq-eqb (told .number) 0 (ap (λ (v : Verdict). v .number) m)))
+      by w z false h = let m : told ≡ plain 26 = e ∙ rw (w, z, h) in values-kept (inr asked) t t (plain 26) told m refl (receipt-none t w k from code (p .at) (subst (Stopped byKey (keyOf k) (keysOf t) (p .at)) h (placed w .2)))
 
   -- the row settles it or refuses it; a row that refuses is stored again
-  module _ (z : told ≡ 0) (d : Row) (after : Row) where
+  module _ (z : told .number ≡ 0) (d : Row) (after : Row) where
     abbrev old : Row
     old = getD (t .rows) (p .at) d
 
     abbrev stored : Table
     stored = record { rows = set (t .rows) (p .at) after; count = t .count }
 
-    pub receipt-acts : (x : ℕ) → x ≡ replied from code (rowOf old .1) .0 → after .key ≡ old .key → rowOf after .1 ≡ (rowOf old .1 .0, mark from (replied from code (rowOf old .1) .1) (rowOf old .1 .1)) → rowFine after ≡ true → ((x ≡ 0 → ⊥) → after ≡ old) → OnValues (named f asked) t x stored
+    pub receipt-acts : (x : ℕ) → x ≡ replied from code (rowOf old .1) .0 → after .key ≡ old .key → rowOf after .1 ≡ (rowOf old .1 .0, mark from (replied from code (rowOf old .1) .1) (rowOf old .1 .1)) → rowFine after ≡ true → ((x ≡ 0 → ⊥) → after ≡ old) → OnValues (named f asked) t (plain x) stored
     receipt-acts x r key rows good same =
         let q = receipt-there z in
-        subst (λ (g : ℕ). OnValues (named g asked) t x stored) (sym (q .1)) (by x r same)
+        subst (λ (c : Call). OnValues c t (plain x) stored) (named-fine f asked (q .1)) (by x r same)
       where
-        by : (x : ℕ) → x ≡ replied from code (rowOf old .1) .0 → ((x ≡ 0 → ⊥) → after ≡ old) → OnValues (inr asked) t x stored
+        by : (x : ℕ) → x ≡ replied from code (rowOf old .1) .0 → ((x ≡ 0 → ⊥) → after ≡ old) → OnValues (inr asked) t (plain x) stored
         by zero r same =
             let q = receipt-there z in
             receipt-settled t (q .0) k from code (p .at) d (q .4) after stored r key rows good refl (take-set-lt (t .count) (t .rows) (p .at) after (q .2))
@@ -205,4 +204,4 @@ module _ (t : Table) (cells : length (t .rows) ≡ 32) (k : DeclaredKey) (f : �
             let q = receipt-there z in
             let u : after ≡ old = same (λ i. omega (arith, i)) in
             let v : stored ≡ t = ap (λ (y : Row). record { rows = set (t .rows) (p .at) y; count = t .count }) u ∙ ap (λ (l : List Row). record { rows = l; count = t .count }) (stored-again (t .rows) (p .at) d (omega (arith, cells, q .2, q .3))) in
-            values-kept (inr asked) t stored (suc n) (suc n) refl v (receipt-refused t (q .0) k from code (p .at) d (q .4) (suc n) (omega arith) r)
+            values-kept (inr asked) t stored (plain (suc n)) (plain (suc n)) refl v (receipt-refused t (q .0) k from code (p .at) d (q .4) (suc n) (omega arith) r)

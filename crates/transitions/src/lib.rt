@@ -8,7 +8,7 @@ ghost use Prim.Native.Nat.{_<_};
 ghost use lib.Dec.{eqb};
 ghost use lib.ListN.{length, take};
 ghost use Rattle.codec.specs.Answer.{pick};
-ghost use Rattle.codec.specs.Codec.{first};
+ghost use Rattle.codec.specs.Verdict.{plain, firstOf};
 ghost use Rattle.header.specs.Table.{addresses};
 ghost use Rattle.record_octets.specs.Record.{sizeOfAddress, addressIn, sizeOfAddresses, addressesIn};
 ghost use Rattle.order.specs.Values.{addressOf, keyOf, keyFault};
@@ -19,7 +19,7 @@ ghost use Rattle.table_octets.specs.Table.{sizeOfKey, keyIn, keyOctets, sizeOfT
 ghost use Rattle.table_octets.specs.Typed.{TypedKey};
 ghost use Rattle.table_octets.specs.Image.{keyImage};
 ghost use Rattle.arguments.specs.Arguments.{named};
-ghost use Rattle.arguments.specs.Told.{pendingNo, answerNo, answerPlace};
+ghost use Rattle.arguments.specs.Told.{pendingNo, answerSays, answerPlace};
 ghost use Rattle.transitions.specs.Transition.{Transition};
 use arguments::Answer;
 use arguments::PendingFault;
@@ -36,18 +36,18 @@ mod places;
 mod settled;
 
 fn is_done(a: Answer) -> bool
-    ensures { λ r. ⌜ r ≡ eqb (answerNo a) 0 ⌝ }
+    ensures { λ r. ⌜ r ≡ eqb (answerSays a .number) 0 ⌝ }
 {
     match a {
         Answer::Done => true,
-        Answer::Refused(_, _) => false,
+        Answer::Refused(_, _, _) => false,
     }
 }
 
 // The answer so far, and one refusal more behind it.
 fn refused_if(said: Answer, fails: bool, fault: PendingFault) -> Answer
     requires { ⌜ answerPlace said ≡ 0 ⌝ }
-    ensures { λ r. ⌜ (answerNo r ≡ first (answerNo said) (pick fails (pendingNo fault) 0)) × (answerPlace r ≡ 0) ⌝ }
+    ensures { λ r. ⌜ (answerSays r ≡ firstOf (answerSays said) (plain (pick fails (pendingNo fault) 0))) × (answerPlace r ≡ 0) ⌝ }
 {
     let Answer::Done = said else {
         return said;
@@ -61,7 +61,7 @@ fn refused_if(said: Answer, fails: bool, fault: PendingFault) -> Answer
 // The first refusal of a call: the table's form, then what the arguments alone say.
 fn judged(well: bool, said: Answer) -> Answer
     requires { ⌜ answerPlace said ≡ 0 ⌝ }
-    ensures { λ r. ⌜ (answerNo r ≡ pick well (answerNo said) 30) × (answerPlace r ≡ 0) ⌝ }
+    ensures { λ r. ⌜ (answerSays r ≡ pick well (answerSays said) (plain 30)) × (answerPlace r ≡ 0) ⌝ }
 {
     if !well {
         return refusal(PendingFault::IllFormed);
@@ -79,8 +79,8 @@ fn row_count(t: &[u8]) -> u32
 
 // A row for a message, unless its key is held or no line is free. The key has nothing in its unused cells.
 pub fn post_row(t: &mut [u8], key: &[u8], asked: Requests, to: &[u8], said: Answer) -> Answer
-    requires { ⌜ (length (now t) ≡ sizeOfTable) × (now key ≡ keyOctets (keyImage (keyOf (keyIn (now key))))) × TypedKey (keyImage (keyOf (keyIn (now key)))) × (length (now to) ≡ sizeOfAddresses) × (answerPlace said ≡ 0) × (answerNo said ≡ 0 → (keyFault (keyIn (now key)) ≡ 0) × (anyOf (askOf asked) ≡ true) × (addresses 15 .check (addressesIn (now to)) ≡ 0)) ⌝ }
-    ensures { λ r. ⌜ Transition (named (answerNo said) (operation.post (keyOf (keyIn (now (key .entry)))) (make (askOf asked) (map addressOf (take (addressesIn (now (to .entry)) .count) (addressesIn (now (to .entry)) .list)))))) (now (t .entry)) (answerNo r) (now (t .exit)) × (answerPlace r ≡ 0) ⌝ }
+    requires { ⌜ (length (now t) ≡ sizeOfTable) × (now key ≡ keyOctets (keyImage (keyOf (keyIn (now key))))) × TypedKey (keyImage (keyOf (keyIn (now key)))) × (length (now to) ≡ sizeOfAddresses) × (answerPlace said ≡ 0) × (answerSays said .number ≡ 0 → (keyFault (keyIn (now key)) ≡ 0) × (anyOf (askOf asked) ≡ true) × (addresses 15 .check (addressesIn (now to)) ≡ 0)) ⌝ }
+    ensures { λ r. ⌜ Transition (named (answerSays said) (operation.post (keyOf (keyIn (now (key .entry)))) (make (askOf asked) (map addressOf (take (addressesIn (now (to .entry)) .count) (addressesIn (now (to .entry)) .list)))))) (now (t .entry)) (answerSays r) (now (t .exit)) × (answerPlace r ≡ 0) ⌝ }
 {
     let seen = inspect(t, key);
     let first = judged(seen.well, said);
@@ -98,8 +98,8 @@ pub fn post_row(t: &mut [u8], key: &[u8], asked: Requests, to: &[u8], said: Answ
 
 // The code written in the row with the key, at the answerer, to each open request that it answers.
 pub fn settle_row(t: &mut [u8], key: &[u8], from: &[u8], code: u32, said: Answer) -> Answer
-    requires { ⌜ (length (now t) ≡ sizeOfTable) × (length (now key) ≡ sizeOfKey) × (length (now from) ≡ sizeOfAddress) × (answerPlace said ≡ 0) × (answerNo said ≡ 0 → 0 < code) ⌝ }
-    ensures { λ r. ⌜ Transition (named (answerNo said) (operation.receipt (keyOf (keyIn (now (key .entry)))) (addressOf (addressIn (now (from .entry))), code))) (now (t .entry)) (answerNo r) (now (t .exit)) × (answerPlace r ≡ 0) ⌝ }
+    requires { ⌜ (length (now t) ≡ sizeOfTable) × (length (now key) ≡ sizeOfKey) × (length (now from) ≡ sizeOfAddress) × (answerPlace said ≡ 0) × (answerSays said .number ≡ 0 → 0 < code) ⌝ }
+    ensures { λ r. ⌜ Transition (named (answerSays said) (operation.receipt (keyOf (keyIn (now (key .entry)))) (addressOf (addressIn (now (from .entry))), code))) (now (t .entry)) (answerSays r) (now (t .exit)) × (answerPlace r ≡ 0) ⌝ }
 {
     let seen = inspect(t, key);
     let first = judged(seen.well, said);
@@ -117,7 +117,7 @@ pub fn settle_row(t: &mut [u8], key: &[u8], from: &[u8], code: u32, said: Answer
 // The row with the key taken out.
 pub fn release_row(t: &mut [u8], key: &[u8], said: Answer) -> Answer
     requires { ⌜ (length (now t) ≡ sizeOfTable) × (length (now key) ≡ sizeOfKey) × (answerPlace said ≡ 0) ⌝ }
-    ensures { λ r. ⌜ Transition (named (answerNo said) (operation.release (keyOf (keyIn (now (key .entry)))))) (now (t .entry)) (answerNo r) (now (t .exit)) × (answerPlace r ≡ 0) ⌝ }
+    ensures { λ r. ⌜ Transition (named (answerSays said) (operation.release (keyOf (keyIn (now (key .entry)))))) (now (t .entry)) (answerSays r) (now (t .exit)) × (answerPlace r ≡ 0) ⌝ }
 {
     let seen = inspect(t, key);
     let first = judged(seen.well, said);

@@ -5,6 +5,7 @@ ghost use mathlib.Core.List.{_++_};
 ghost use mathlib.Core.Option.{none, some};
 ghost use Prim.Native.Nat.{_<_};
 ghost use lib.ListN.{length};
+ghost use Rattle.codec.specs.Verdict.{plain};
 ghost use Rattle.order.specs.Values.{addressOf};
 ghost use Rattle.order.specs.Requests.{opens, write, askOf};
 ghost use Rattle.order.specs.Requests as requests;
@@ -14,7 +15,7 @@ ghost use Rattle.record_octets.specs.Record.{sizeOfAddress, addressIn};
 ghost use Rattle.table.specs.Rows.{codeOf, markOf, rowOf};
 ghost use Rattle.table.specs.WellFormed.{rowFine};
 ghost use Rattle.table_octets.specs.Table.{sizeOfRecipient, recipientIn, sizeOfRow, rowIn};
-ghost use Rattle.arguments.specs.Told.{answerNo, answerPlace};
+ghost use Rattle.arguments.specs.Told.{answerSays, answerPlace};
 ghost use Rattle.transitions.specs.Octets.{marks, hasMark, marked, settled};
 use arguments::Answer;
 use arguments::PendingFault;
@@ -120,7 +121,7 @@ fn settle(asked: Requests, code: u32, x: &mut [u8]) -> bool
 // refusal leaves every octet as it was.
 pub fn settled_row(r: &mut [u8], from: &[u8], code: u32) -> Answer
     requires { ⌜ (length (now r) ≡ sizeOfRow) × (length (now from) ≡ sizeOfAddress) × (rowFine (rowIn (now r)) ≡ true) × (0 < code) ⌝ }
-    ensures { λ s. ⌜ (answerNo s ≡ replied (addressOf (addressIn (now (from .entry)))) code (rowOf (rowIn (now (r .entry))) .1) .0) × (answerPlace s ≡ 0) × (now (r .exit) ≡ settled (addressOf (addressIn (now (from .entry))), code) (rowOf (rowIn (now (r .entry))) .1) (replied (addressOf (addressIn (now (from .entry)))) code (rowOf (rowIn (now (r .entry))) .1) .1) (now (r .entry))) ⌝ }
+    ensures { λ s. ⌜ (answerSays s ≡ plain (replied (addressOf (addressIn (now (from .entry)))) code (rowOf (rowIn (now (r .entry))) .1) .0)) × (answerPlace s ≡ 0) × (now (r .exit) ≡ settled (addressOf (addressIn (now (from .entry))), code) (rowOf (rowIn (now (r .entry))) .1) (replied (addressOf (addressIn (now (from .entry)))) code (rowOf (rowIn (now (r .entry))) .1) .1) (now (r .entry))) ⌝ }
 {
     let count = load_word(&r[in_row::COUNT..in_row::END]);
     let place = find_recipient(&r[in_row::RECIPIENTS..in_row::COUNT], count, from);

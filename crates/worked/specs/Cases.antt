@@ -4,6 +4,7 @@ use mathlib.Core.Path.{_≡_}
 use mathlib.Core.Bool.{true, false}
 use mathlib.Core.List.{List, [], _∷_, _++_}
 use lib.ListN.{length, drop, replicate}
+use Rattle.codec.specs.Verdict.{Verdict, inBlock, plain as just}
 use Rattle.header.specs.Zero.{noNumber, noOptionalText, noAddress, noAddresses, noDtg, noStamp, noIdentity, noRequests, noResponse, noReferences, noBlock}
 use Rattle.optional.specs.declared.OptionalNumber.{OptionalNumber}
 use Rattle.header.specs.declared.Address.{Address}
@@ -21,24 +22,25 @@ use Rattle.writer.specs.Writing as Writing
 use Rattle.writer.specs.Writing.{Writing, done, writing, outputAfter}
 
 -- a datagram, what reading it gives, and the user data behind its header; or a record with a count of user data and an output, what writing it gives, and the
--- output afterwards; or calls on the table of pending messages, the first on an empty one, and the numbers of their answers
+-- output afterwards; or calls on the table of pending messages, the first on an empty one, and their answers
 pub data Case : Type 0 where
   reads : List ℕ → Reading → List ℕ → Case
   writes : Header → ℕ → List ℕ → Writing → List ℕ → Case
-  plays : List Arguments → List ℕ → Case
+  plays : List Arguments → List Verdict → Case
 
 -- a case holds of the definitions that the contracts of the public calls cite, and a case of calls also of the history's sheet
 abbrev pub Holds : Case → Type 0
 Holds (reads s gives behind) = (reading s ≡ gives) × (userData s ≡ behind)
 Holds (writes h count out gives after) = (writing h count (length out) ≡ gives) × (outputAfter h (writing h count (length out)) out ≡ after)
-Holds (plays calls numbers) = (answers (λ x. onTable (callOf x)) [] calls ≡ numbers) × (answers sheet [] calls ≡ numbers)
+Holds (plays calls given) = (answers (λ x. onTable (callOf x)) [] calls ≡ given) × (answers sheet [] calls ≡ given)
 
 abbrev pub AllHold : List Case → Type 0
 AllHold [] = Unit {0}
 AllHold (c ∷ cs) = Holds c × AllHold cs
 
-abbrev refusedWith : List ℕ → ℕ → ℕ → Case
-refusedWith s number place = reads s (rejected number place) []
+-- refused with a number, a bit place and a block
+abbrev refusedWith : List ℕ → ℕ → ℕ → ℕ → Case
+refusedWith s number place block = reads s (rejected number place block) []
 
 abbrev acceptedAs : List ℕ → List ℕ → Header → ℕ → Case
 acceptedAs s d h octets = reads s (accepted h octets) d
@@ -202,14 +204,14 @@ octetsC = 0xE2 ∷ 0x01 ∷ 0x00 ∷ 0x00 ∷ 0x7D ∷ 0x06 ∷ 0x00 ∷ 0x00 �
 
 unfoldable pub cases : List Case
 cases =
-    -- A with one octet of data; without data; its last octet 02 (a fill bit), and 01 (the presence bit of G10)
+    -- A with one octet of data; without data, which block 1 needs; its last octet 02 (a fill bit), and 01 (the presence bit of G10)
     acceptedAs (octetsA ++ 0x5A ∷ []) (0x5A ∷ []) recordA 5
-    ∷ refusedWith octetsA 10 0
-    ∷ refusedWith (0x02 ∷ 0x08 ∷ 0x00 ∷ 0x00 ∷ 0x02 ∷ 0x5A ∷ []) 9 33
-    ∷ refusedWith (0x02 ∷ 0x08 ∷ 0x00 ∷ 0x00 ∷ 0x01 ∷ 0x5A ∷ []) 7 32
+    ∷ refusedWith octetsA 53 0 1
+    ∷ refusedWith (0x02 ∷ 0x08 ∷ 0x00 ∷ 0x00 ∷ 0x02 ∷ 0x5A ∷ []) 9 33 0
+    ∷ refusedWith (0x02 ∷ 0x08 ∷ 0x00 ∷ 0x00 ∷ 0x01 ∷ 0x5A ∷ []) 7 32 0
     -- empty input; first octet 03
-    ∷ refusedWith [] 1 0
-    ∷ refusedWith (0x03 ∷ 0x08 ∷ 0x00 ∷ 0x00 ∷ 0x00 ∷ 0x5A ∷ []) 2 0
+    ∷ refusedWith [] 1 0 0
+    ∷ refusedWith (0x03 ∷ 0x08 ∷ 0x00 ∷ 0x00 ∷ 0x00 ∷ 0x5A ∷ []) 2 0 0
     -- B with one octet of data, and C
     ∷ acceptedAs (octetsB ++ 0x01 ∷ []) (0x01 ∷ []) recordB 16
     ∷ acceptedAs octetsC [] recordC 16
@@ -217,15 +219,16 @@ cases =
     ∷ writtenAs recordA 1 octetsA
     ∷ writtenAs recordB 1 octetsB
     ∷ writtenAs recordC 0 octetsC
-    ∷ writes recordA 0 over (Writing.rejected 10 0) over
+    ∷ writes recordA 0 over (Writing.rejected 53 0 1) over
     -- A in version 1 with one octet of data, and its last bit 1 (the presence bit of G10); written; with a standard version; Table XVIII
     ∷ acceptedAs (octetsA1 ++ 0x5A ∷ []) (0x5A ∷ []) recordA1 4
-    ∷ refusedWith (0x01 ∷ 0x08 ∷ 0x00 ∷ 0x80 ∷ 0x5A ∷ []) 7 31
+    ∷ refusedWith (0x01 ∷ 0x08 ∷ 0x00 ∷ 0x80 ∷ 0x5A ∷ []) 7 31 0
     ∷ writtenAs recordA1 1 octetsA1
-    ∷ writes standardA1 1 over (Writing.rejected 3 0) over
-    ∷ refusedWith tableXVIII 6 31
-    -- C on the empty table; B twice; B and C twice
-    ∷ plays (receiving recordC 1 0 ∷ []) (26 ∷ [])
-    ∷ plays (posting recordB 1 1 ∷ posting recordB 1 1 ∷ []) (0 ∷ 22 ∷ [])
-    ∷ plays (posting recordB 1 1 ∷ receiving recordC 1 0 ∷ receiving recordC 1 0 ∷ []) (0 ∷ 0 ∷ 28 ∷ [])
+    ∷ writes standardA1 1 over (Writing.rejected 3 0 0) over
+    ∷ refusedWith tableXVIII 6 31 0
+    -- A without data, whichever block is posted; C on the empty table; B twice; B and C twice
+    ∷ plays (posting recordA 1 0 ∷ posting recordA 2 0 ∷ []) (inBlock 1 53 ∷ inBlock 1 53 ∷ [])
+    ∷ plays (receiving recordC 1 0 ∷ []) (just 26 ∷ [])
+    ∷ plays (posting recordB 1 1 ∷ posting recordB 1 1 ∷ []) (just 0 ∷ just 22 ∷ [])
+    ∷ plays (posting recordB 1 1 ∷ receiving recordC 1 0 ∷ receiving recordC 1 0 ∷ []) (just 0 ∷ just 0 ∷ just 28 ∷ [])
     ∷ []

@@ -263,6 +263,28 @@ pub fn spoil(h: &mut Header, random: &mut Random) {
     }
 }
 
+/// Changes something that the rules or the sizes look at, in any block; each field by itself stays as good as it was.
+pub fn break_rule(h: &mut Header, random: &mut Random) {
+    let blocks = (h.blocks.count as usize).clamp(1, 16);
+    let b = &mut h.blocks.list[random.below(blocks)];
+    match random.below(12) {
+        0 => h.front.originator.present = false,
+        1 => h.front.compression = number(random.bits(1)),
+        2 => h.sized = false,
+        3 => b.format.umf = [1, 4][random.below(2)],
+        4 | 5 => {
+            b.format.umf = [1, 4][random.below(2)];
+            b.format.identity = identity(random);
+        }
+        6 => b.handling.size.present = false,
+        7 => b.handling.size = number(random.below(2) as u32),
+        8 => b.times.perish = OptionalDtg { present: true, dtg: stamp(random).dtg },
+        9 => b.times.origin.present = false,
+        10 => b.response.response.compliance.cantco = number(random.bits(3)),
+        _ => b.response.response.compliance.cantpro = number(random.bits(6)),
+    }
+}
+
 pub fn spoil_key(key: &mut Key, random: &mut Random) {
     match random.below(2) {
         0 => spoil_address(&mut key.address, random),

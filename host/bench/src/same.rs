@@ -1,5 +1,6 @@
-//! The proved calls and the fast ones agree: number, place, record, octets, table and listing, on every input that is
-//! measured and on random ones. Fast reading and writing are held against the proved ones by fragments and by words.
+//! The proved calls and the fast ones agree: number, place and block, record, octets, table and listing, on every input
+//! that is measured and on random ones. Fast reading and writing are held against the proved ones by fragments and by
+//! words.
 
 use crate::cells::{all_cells, used_cells};
 use crate::draft;
@@ -9,12 +10,18 @@ use crate::samples::{self, Sample};
 use pruvelaccio::{Header, HeaderRead, Key, Refusal, Table};
 
 const RECORDS: usize = 4000;
+const BROKEN: usize = 2000;
 const TABLES: usize = 80;
 const CALLS_EACH: usize = 60;
 
-/// Document 01's numbers of refusals.
-const NUMBERS: [u32; 23] =
-    [1, 2, 3, 4, 5, 6, 7, 8, 9, 10, 11, 12, 20, 21, 22, 23, 24, 25, 26, 27, 28, 29, 30];
+/// The numbers of refusals, document 01's and document 02's for the rules and the sizes.
+const NUMBERS: [u32; 34] = [
+    1, 2, 3, 4, 5, 6, 7, 9, 11, 12, 20, 21, 22, 23, 24, 25, 26, 27, 28, 29, 30, 41, 42, 43, 44, 45,
+    46, 47, 48, 49, 51, 52, 53, 54,
+];
+
+/// Those that tell a message block.
+const BLAMED: [u32; 11] = [41, 42, 43, 44, 45, 46, 47, 48, 49, 53, 54];
 
 /// A posting or receipt with its arguments, or a release.
 pub enum Call<'a> {
@@ -57,12 +64,12 @@ struct Compared {
     datagrams: usize,
     records: usize,
     calls: usize,
-    met: Vec<u32>,
+    met: Vec<Refusal>,
 }
 
 impl Compared {
     fn note<T>(&mut self, answer: &Result<T, Refusal>) {
-        self.met.extend(answer.as_ref().err().map(|refusal| refusal.number));
+        self.met.extend(answer.as_ref().err());
     }
 
     /// A record that is lent is filled as a new one is; after a refusal it is as it was.
@@ -205,6 +212,18 @@ fn random_record(compared: &mut Compared, random: &mut Random) {
     (0..3).for_each(|_| compared.reading(&mutated(&datagram, random)));
 }
 
+/// A record in which one to three rules are broken or sizes wrong: checked, written, and posted. The data mostly goes
+/// with the sizes as they then are.
+fn broken_record(compared: &mut Compared, t: &Table, random: &mut Random) {
+    let (mut h, before) = draft::header(random);
+    (0..1 + random.below(3)).for_each(|_| draft::break_rule(&mut h, random));
+    let sizes = h.blocks.list[..h.blocks.count as usize].iter().map(|b| b.handling.size);
+    let sum = sizes.filter(|size| size.present).map(|size| size.value as usize).sum();
+    let count = if random.once_in(4) { before } else { sum };
+    let _ = compared.writing(&h, count, 8192);
+    compared.call(t, &Call::Post(&h, 1, count));
+}
+
 /// One random call on a table: the table afterwards.
 fn random_call(compared: &mut Compared, t: &Table, random: &mut Random) -> Box<Table> {
     let (mut h, count) = draft::header(random);
@@ -255,8 +274,15 @@ pub fn run() {
     longest(&mut compared);
     (0..RECORDS).for_each(|_| random_record(&mut compared, &mut random));
     (0..TABLES).for_each(|_| random_table(&mut compared, &mut random));
+    let table = samples::almost_empty();
+    (0..BROKEN).for_each(|_| broken_record(&mut compared, &table, &mut random));
     for number in NUMBERS {
-        assert!(compared.met.contains(&number), "refusal {number} was not met");
+        let met = compared.met.iter().any(|refusal| refusal.number == number);
+        assert!(met, "refusal {number} was not met");
+    }
+    for number in BLAMED {
+        let met = compared.met.iter().any(|refusal| refusal.number == number && refusal.block > 1);
+        assert!(met, "refusal {number} was not met in a later block");
     }
     println!(
         "proved and fast, by fragments and by words, agree on {} records, {} datagrams and {} calls on tables, \

@@ -1,5 +1,6 @@
-//! Whole records of octets: any octets at all, and those of valid records with some of them replaced. Of octets without
-//! any aim nearly all are refused for their version, so most are made with flags and numbers that could be true.
+//! Whole records of octets: any octets at all, those of valid records with some of them replaced, and those of records
+//! that break a rule. Of octets without any aim nearly all are refused for their version, so most are made with flags
+//! and numbers that could be true.
 
 use std::mem::{offset_of, size_of};
 
@@ -10,7 +11,7 @@ use crate::cells::Places;
 use crate::laid;
 use crate::pool::{self, Pool};
 use crate::random::Random;
-use crate::records;
+use crate::records::{self, Case};
 use crate::rubbish::{any_octets, loosen, set};
 use crate::run::Run;
 use crate::tables;
@@ -78,7 +79,7 @@ pub fn small(limit: u32, random: &mut Random) -> u32 {
 }
 
 // ---------------------------------------------------------------------------
-// Valid records with octets replaced
+// Valid records with octets replaced, and records that break a rule
 
 /// One to eight octets of a valid record, and now and then the count of data, are replaced. The record suits the table:
 /// it can be a message to be posted there, or an answer to one of its rows.
@@ -89,6 +90,21 @@ pub fn replaced(run: &mut Run, pool: &Pool, table: &Board) -> Lending {
         2..=4 => pool::message(pool, random),
         _ => tables::receipt(pool, table, random),
     };
+    let octets = 1 + random.below(8);
+    lend(run, &case, octets)
+}
+
+/// The octets of a record that breaks a rule or has a wrong size, at most one of them replaced: with more it would
+/// seldom be the rule that is told.
+pub fn broken(run: &mut Run) -> Lending {
+    let case = run.broken_case();
+    let octets = run.random.below(2);
+    lend(run, &case, octets)
+}
+
+/// A record's octets over zeros or rubbish, so many of them replaced.
+fn lend(run: &mut Run, case: &Case, replaced: u32) -> Lending {
+    let random = &mut run.random;
     let blocks = case.record.blocks.len();
     let mut record = RecordOctets::zero();
     if !random.one_in(4) {
@@ -98,7 +114,7 @@ pub fn replaced(run: &mut Run, pool: &Pool, table: &Board) -> Lending {
     if random.coin() {
         loosen(record.octets_mut(), &run.places, random);
     }
-    for _ in 0..1 + random.below(8) {
+    for _ in 0..replaced {
         let at = place(blocks, &run.places, random);
         let octet = &mut record.octets_mut()[at];
         *octet = instead(*octet, random);
@@ -135,10 +151,10 @@ pub fn instead(octet: u8, random: &mut Random) -> u8 {
 fn other_count(count: u64, random: &mut Random) -> u64 {
     match random.below(6) {
         0 => 0,
-        1 => count + 1,
+        1 => count.wrapping_add(1),
         2 => count.saturating_sub(1),
         3 => u64::MAX - u64::from(random.below(3)),
-        4 => (1 << 32) + count,
+        4 => count.wrapping_add(1 << 32),
         _ => 65_400 + u64::from(random.below(200)),
     }
 }

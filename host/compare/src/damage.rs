@@ -1,28 +1,36 @@
 //! One thing wrong in a valid record, with the refusal that it must get. Every field has its turn.
 
-use reference::{Address, Block, Dtg, Header, Stamp};
+use reference::{Address, Block, Dtg, Header, Refusal, Stamp};
 
+use crate::between::{Blamed, RULES, SIZES};
+use crate::pairs::{self, BODIES};
 use crate::random::Random;
 use crate::records::{self, Case, Maker};
-use crate::wholes::{Named, COUNTS, LENGTHS, RULES, SIZES};
+use crate::wholes::{Named, COUNTS, LENGTHS};
 
-type Apply = Box<dyn Fn(&mut Case, &mut Random) -> bool>;
+/// Does the damage and says which block is told, 0 for none; nothing where the record lacks what it needs.
+type Apply = Box<dyn Fn(&mut Case, &mut Random) -> Option<u32>>;
 
 pub struct Damage {
     pub name: String,
-    /// The refusal of the writer's checks.
+    /// The number of the refusal by the writer's checks.
     pub number: u32,
-    /// Does the damage, or says that the record lacks what it needs.
     apply: Apply,
 }
 
 impl Damage {
-    /// A record that is valid but for this damage.
-    pub fn case(&self, random: &mut Random) -> Case {
+    /// Whether it is the rules or the sizes that refuse it: something between fields is wrong.
+    pub fn between(&self) -> bool {
+        self.number > 40
+    }
+
+    /// A record that is valid but for this damage, and how it is refused.
+    pub fn case(&self, random: &mut Random) -> (Case, Refusal) {
         for _ in 0..100_000 {
-            let mut case = records::rich(random);
-            if (self.apply)(&mut case, random) {
-                return case;
+            let make = if self.between() { records::several } else { records::rich };
+            let mut case = make(random);
+            if let Some(block) = (self.apply)(&mut case, random) {
+                return (case, Refusal { number: self.number, place: 0, block });
             }
         }
         panic!("no record could be damaged: {}", self.name);
@@ -54,8 +62,10 @@ pub fn all() -> Vec<Damage> {
     add_texts(&mut list);
     add_addresses(&mut list);
     add_named(&mut list, 5, COUNTS);
-    add_named(&mut list, 8, RULES);
-    add_named(&mut list, 10, SIZES);
+    add_blamed(&mut list, RULES);
+    add_blamed(&mut list, SIZES);
+    add_blamed(&mut list, BODIES);
+    pairs::add_rules(&mut list);
     add_named(&mut list, 12, LENGTHS);
     list
 }
@@ -64,6 +74,15 @@ fn damage(
     name: String,
     number: u32,
     apply: impl Fn(&mut Case, &mut Random) -> bool + 'static,
+) -> Damage {
+    blamed(name, number, move |case, random| apply(case, random).then_some(0))
+}
+
+/// The same for damage that tells a block.
+pub fn blamed(
+    name: String,
+    number: u32,
+    apply: impl Fn(&mut Case, &mut Random) -> Option<u32> + 'static,
 ) -> Damage {
     Damage { name, number, apply: Box::new(apply) }
 }
@@ -248,5 +267,11 @@ fn add_addresses(list: &mut Vec<Damage>) {
 fn add_named(list: &mut Vec<Damage>, number: u32, named: &'static [Named]) {
     for (name, apply) in named {
         list.push(damage(name.to_string(), number, apply));
+    }
+}
+
+fn add_blamed(list: &mut Vec<Damage>, all: &'static [Blamed]) {
+    for (name, number, apply) in all {
+        list.push(blamed(name.to_string(), *number, apply));
     }
 }

@@ -84,8 +84,9 @@ pub struct Changes {
 
 fn note(changes: &mut Changes, answers: &Answers) {
     let Answers { post, receipt, release, list_row } = answers;
+    let changed = [post, receipt, release].iter().all(|told| told.is_ok());
     changes.tried += 1;
-    changes.done += usize::from([post, receipt, release, list_row].iter().all(|n| **n == 0));
+    changes.done += usize::from(changed && list_row.is_ok());
 }
 
 /// Every octet of the table, with its lowest bit turned and with all its bits turned.

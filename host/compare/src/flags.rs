@@ -5,7 +5,7 @@ use std::mem::{offset_of, size_of};
 
 use pruvelaccio::{RecordOctets, TableOctets};
 use reference::{Address, Block, Board, Dtg, Header, Identity, Recipient, Reference, Requests};
-use reference::{Response, Row, Stamp};
+use reference::{Refusal, Response, Row, Stamp};
 
 use crate::cells::Places;
 use crate::headers::{same_octets, same_size};
@@ -15,7 +15,7 @@ use crate::library;
 use crate::octets::ROOM;
 use crate::records::{bare_block, bare_header};
 use crate::run::caught;
-use crate::tables::same_table;
+use crate::tables::{same_table, Told};
 use crate::taken;
 
 const PATTERN: u8 = 0xA5;
@@ -132,11 +132,11 @@ fn bases(version: u32, offset: usize) -> Vec<Base> {
 /// What the second program makes of a record.
 #[derive(PartialEq)]
 struct Expected {
-    check: Result<usize, u32>,
-    write: Result<usize, u32>,
+    check: Result<usize, Refusal>,
+    write: Result<usize, Refusal>,
     out: Vec<u8>,
-    post: (u32, Board),
-    receipt: (u32, Board),
+    post: (Told, Board),
+    receipt: (Told, Board),
 }
 
 fn expected(base: &Base, record: &RecordOctets) -> Expected {

@@ -2,7 +2,7 @@
 
 use pruvelaccio::raw::SizeAnswer;
 use pruvelaccio::RecordOctets;
-use reference::Header;
+use reference::{Header, Refusal};
 
 use crate::cells::Cells;
 use crate::laid;
@@ -14,15 +14,16 @@ use crate::tally::Kind;
 /// Octets before and behind a lent output that no call may touch.
 const GUARD: usize = 24;
 
-type Reading = Result<(Header, usize), (u32, usize)>;
+type Reading = Result<(Header, usize), Refusal>;
 
 // ---------------------------------------------------------------------------
 // When two answers are the same
 
-pub fn same_size(call: &str, plain: Result<usize, u32>, got: SizeAnswer) -> Result<(), String> {
+/// Number, block and place, and the length, which is 0 beside a refusal.
+pub fn same_size(call: &str, plain: Result<usize, Refusal>, got: SizeAnswer) -> Result<(), String> {
     let expected = match plain {
-        Ok(length) => SizeAnswer { number: 0, place: 0, length },
-        Err(number) => SizeAnswer { number, place: 0, length: 0 },
+        Ok(length) => SizeAnswer { number: 0, block: 0, place: 0, length },
+        Err(Refusal { number, place, block }) => SizeAnswer { number, block, place, length: 0 },
     };
     if expected == got {
         return Ok(());
@@ -58,14 +59,9 @@ pub fn same_reading(
     got: &SizeAnswer,
     after: &RecordOctets,
 ) -> Result<(), String> {
-    let (told, record) = match plain {
-        Ok((record, length)) => ((0, 0, *length), laid::alone(record)),
-        Err((number, place)) => ((*number, *place, 0), *before),
-    };
-    let own = (got.number, got.place, got.length);
-    if told != own {
-        return Err(format!("read: the second program gives {told:?}, the library {own:?}"));
-    }
+    let told = plain.as_ref().map(|(_, length)| *length).map_err(|refusal| *refusal);
+    same_size("read", told, *got)?;
+    let record = plain.as_ref().map_or(*before, |(record, _)| laid::alone(record));
     let difference = different(&record, after);
     difference.map_or(Ok(()), |at| Err(format!("read: what should be there beside what is: {at}")))
 }
@@ -87,7 +83,7 @@ fn check_and_write(run: &mut Run, case: &Case) -> Result<Option<Vec<u8>>, String
     let header = run.rubbish.header(case, &mut run.random);
     let plain = reference::check(&case.record, case.count);
     same_size("check", plain, library::check(&header, case.count as usize)?)?;
-    run.tally.note(Kind::Check, plain.err().unwrap_or(0))?;
+    run.tally.note(Kind::Check, &plain)?;
     run.tally.record_versions.note(case.record.version, plain.is_ok());
     let standard = case.record.blocks.iter().any(|block| block.standard_version.is_some());
     run.tally.needless_standards += u64::from(case.record.version == 1 && standard);
@@ -115,7 +111,7 @@ fn compare_write(
     let lent = GUARD..GUARD + room;
     let plain = reference::write(&case.record, case.count, &mut other[lent.clone()]);
     let got = library::write(header, case.count as usize, &mut own[lent])?;
-    run.tally.note(Kind::Write, plain.err().unwrap_or(0))?;
+    run.tally.note(Kind::Write, &plain)?;
     same_size("write", plain, got)?;
     same_octets("write", &other, &own)?;
     Ok(plain.ok().map(|length| own[GUARD..GUARD + length].to_vec()))
@@ -135,7 +131,7 @@ pub fn compare_datagram(run: &mut Run, datagram: &[u8]) -> Result<Option<Header>
 fn read_and_write(run: &mut Run, datagram: &[u8]) -> Result<Option<Header>, String> {
     let plain = reference::read(datagram);
     compare_reading(run, datagram, &plain)?;
-    run.tally.note(Kind::Read, plain.as_ref().err().map_or(0, |refusal| refusal.0))?;
+    run.tally.note(Kind::Read, &plain)?;
     let version = datagram.first().map_or(0, |octet| octet & 15);
     run.tally.datagram_versions.note(u32::from(version), plain.is_ok());
     same_data(datagram)?;

@@ -1,6 +1,6 @@
 //! Tables with one thing wrong in them: every call has to refuse them with 30 and leave them as they are.
 
-use reference::{Address, Board, Dtg, Recipient, Row, Stamp};
+use reference::{Address, Board, Dtg, Recipient, Refusal, Row, Stamp};
 
 use crate::damage::{BAD_ADDRESSES, BAD_DTGS};
 use crate::listing;
@@ -194,9 +194,9 @@ pub fn compare_spoiled(run: &mut Run, turn: u64) -> Result<(), String> {
     listing::compare_row(run, &pair, number, room)
 }
 
-fn expect_30(number: u32, way: &str) -> Result<(), String> {
-    if number == 30 {
+fn expect_30(refusal: Option<Refusal>, way: &str) -> Result<(), String> {
+    if refusal == Some(Refusal::new(30)) {
         return Ok(());
     }
-    Err(format!("{way}: both programs answer {number}, not 30"))
+    Err(format!("{way}: both programs answer {refusal:?}, not 30"))
 }

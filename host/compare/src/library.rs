@@ -7,12 +7,19 @@ use pruvelaccio::{Header, KeyOctets, RecordOctets, Refusal, Table, TableOctets, 
 
 use crate::cells::Cells;
 
-fn refusal<T>(number: u32, place: usize, done: T) -> Result<T, Refusal> {
+/// An answer of the exported function as the wrapper hands it on.
+fn told(own: Answer) -> Result<(), Refusal> {
+    let Answer { number, block, place } = own;
     if number == 0 {
-        Ok(done)
+        Ok(())
     } else {
-        Err(Refusal { number, place })
+        Err(Refusal { number, place, block })
     }
+}
+
+fn told_size(own: SizeAnswer) -> Result<usize, Refusal> {
+    let SizeAnswer { number, block, place, length } = own;
+    told(Answer { number, block, place }).map(|()| length)
 }
 
 fn agree<T: PartialEq + std::fmt::Debug>(call: &str, own: T, wrapper: T) -> Result<(), String> {
@@ -80,7 +87,7 @@ pub fn read(datagram: &[u8], record: &mut RecordOctets) -> Result<SizeAnswer, St
     let pointer = record.octets_mut();
     // SAFETY: pointer and length are those of one slice, and the record is lent for this call alone.
     let own = unsafe { raw::pruvelaccio_read_octets(datagram.as_ptr(), datagram.len(), pointer) };
-    let told = refusal(own.number, own.place, own.length);
+    let told = told_size(own);
     agree("read_octets", told, pruvelaccio::read_octets(datagram, &mut second))?;
     agree("read_octets", &*record, &second)?;
     let wrapper = pruvelaccio::read(datagram);
@@ -103,8 +110,7 @@ pub fn user_data(datagram: &[u8]) -> Result<(usize, usize), String> {
 pub fn check(record: &impl Lent, count: usize) -> Result<SizeAnswer, String> {
     // SAFETY: the pointer is that of a whole record; any octets are some record.
     let own = unsafe { raw::pruvelaccio_check_octets(record.pointer(), count) };
-    let told = refusal(own.number, own.place, own.length);
-    agree("check", told, record.check(count))?;
+    agree("check", told_size(own), record.check(count))?;
     Ok(own)
 }
 
@@ -114,8 +120,7 @@ pub fn write(record: &impl Lent, count: usize, out: &mut [u8]) -> Result<SizeAns
     // SAFETY: as in `check`; pointer and length are those of a slice lent for this call alone.
     let own =
         unsafe { raw::pruvelaccio_write_octets(record.pointer(), count, out.as_mut_ptr(), room) };
-    let told = refusal(own.number, own.place, own.length);
-    agree("write", told, record.write(count, &mut second))?;
+    agree("write", told_size(own), record.write(count, &mut second))?;
     agree("write", &*out, &second)?;
     Ok(own)
 }
@@ -132,9 +137,9 @@ pub fn empty(table: &mut TableOctets) -> Result<(), String> {
 fn changed(
     call: &str,
     (own, table): (Answer, &TableOctets),
-    (told, second): (Result<(), Refusal>, &TableOctets),
+    (wrapper, second): (Result<(), Refusal>, &TableOctets),
 ) -> Result<Answer, String> {
-    agree(call, refusal(own.number, own.place, ()), told)?;
+    agree(call, told(own), wrapper)?;
     agree(call, table, second)?;
     Ok(own)
 }
@@ -149,8 +154,8 @@ pub fn post(
     let pointer = table.octets_mut();
     // SAFETY: as in `check`; the pointer is that of a whole table, lent for this call alone.
     let own = unsafe { raw::pruvelaccio_post_octets(pointer, h.pointer(), number, count) };
-    let told = h.post(&mut second, number, count);
-    changed("post", (own, table), (told, &second))
+    let wrapper = h.post(&mut second, number, count);
+    changed("post", (own, table), (wrapper, &second))
 }
 
 pub fn receipt(
@@ -163,8 +168,8 @@ pub fn receipt(
     let pointer = table.octets_mut();
     // SAFETY: as in `post`.
     let own = unsafe { raw::pruvelaccio_receipt_octets(pointer, h.pointer(), number, count) };
-    let told = h.receipt(&mut second, number, count);
-    changed("receipt", (own, table), (told, &second))
+    let wrapper = h.receipt(&mut second, number, count);
+    changed("receipt", (own, table), (wrapper, &second))
 }
 
 pub fn release(table: &mut TableOctets, key: &KeyOctets) -> Result<Answer, String> {
@@ -172,8 +177,8 @@ pub fn release(table: &mut TableOctets, key: &KeyOctets) -> Result<Answer, Strin
     let pointer = table.octets_mut();
     // SAFETY: as in `post`; the pointer is that of a whole key, and any octets are some key.
     let own = unsafe { raw::pruvelaccio_release_octets(pointer, key.octets()) };
-    let told = second.release_octets(key);
-    changed("release", (own, table), (told, &second))
+    let wrapper = second.release_octets(key);
+    changed("release", (own, table), (wrapper, &second))
 }
 
 pub fn list_row(t: &TableOctets, number: u32, out: &mut [u8]) -> Result<SizeAnswer, String> {
@@ -181,8 +186,7 @@ pub fn list_row(t: &TableOctets, number: u32, out: &mut [u8]) -> Result<SizeAnsw
     let (pointer, room) = (out.as_mut_ptr(), out.len());
     // SAFETY: as in `write`; the pointer is that of a whole table, which the call only reads.
     let own = unsafe { raw::pruvelaccio_list_row_octets(t.octets(), number, pointer, room) };
-    let told = refusal(own.number, own.place, own.length);
-    agree("list_row", told, t.list_row(number, &mut second))?;
+    agree("list_row", told_size(own), t.list_row(number, &mut second))?;
     agree("list_row", &*out, &second)?;
     Ok(own)
 }
@@ -195,8 +199,7 @@ pub fn same_struct(
     wrapper: impl FnOnce(&mut Table) -> Result<(), Refusal>,
 ) -> Result<(), String> {
     let mut table = Table::from(before);
-    let told = wrapper(&mut table);
-    agree(call, refusal(own.number, own.place, ()), told)?;
+    agree(call, told(own), wrapper(&mut table))?;
     agree(call, Table::from(after).difference(&table), None)
 }
 

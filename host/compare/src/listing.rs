@@ -45,7 +45,7 @@ fn list(run: &mut Run, pair: &Pair, number: u32, room: usize) -> Result<(), Stri
     if run.random.one_in(32) {
         library::same_struct_row(&pair.table, number, room)?;
     }
-    run.tally.note(Kind::ListRow, plain.err().unwrap_or(0))?;
+    run.tally.note(Kind::ListRow, &plain)?;
     same_size("list_row", plain, got)?;
     same_octets("list_row", &other, &own)
 }

@@ -1,9 +1,11 @@
 //! Lays the proved library and the program `pending_list` beside the second program, `host/reference`, on many
 //! inputs in both directions: records as structs and as whole octets of any kind, datagrams, lists of calls, tables as
-//! whole octets of any kind. Ends with status 1 at the first difference, or if a refusal came up too seldom.
+//! whole octets of any kind. Of each answer the number, the place and the block are compared. Ends with status 1 at the
+//! first difference, or if a refusal came up too seldom, in all or about a message block behind the first.
 
 mod any_octets;
 mod any_tables;
+mod between;
 mod cells;
 mod convert;
 mod damage;
@@ -19,6 +21,7 @@ mod laid;
 mod library;
 mod listing;
 mod octets;
+mod pairs;
 mod pool;
 mod program;
 mod program_cases;
@@ -148,7 +151,8 @@ fn compare(options: &Options) -> Result<Tally, String> {
     compare_all(options, run.tally)
 }
 
-/// Each refusal of each call has to come up often enough, unless the run is shorter than it is meant to be.
+/// Each refusal of each call has to come up often enough, and those that tell a block in later blocks too, unless the
+/// run is shorter than it is meant to be.
 fn enough(tally: &Tally) -> Result<(), String> {
     let lacking = tally.lacking();
     if lacking.is_empty() {

@@ -13,7 +13,7 @@ use crate::library;
 use crate::pool::{self, Pool};
 use crate::random::Random;
 use crate::run::{as_record, caught, side, Run};
-use crate::tables::{same_table, Pair};
+use crate::tables::{same_table, Pair, Told};
 use crate::taken;
 use crate::tally::Kind;
 
@@ -51,11 +51,12 @@ impl Scene {
     }
 }
 
-/// Any octets and replaced ones by turns.
+/// Any octets and replaced ones by turns; of these now and then a record that breaks a rule.
 pub fn compare_turn(run: &mut Run, scene: &Scene, turn: u64) -> Result<(), String> {
     let (pair, suited) = scene.pairs(&mut run.random);
     let lending = match turn % 2 {
         0 => any_octets::any(run),
+        _ if turn % 16 == 1 => any_octets::broken(run),
         _ => any_octets::replaced(run, &scene.pool, &suited.plain),
     };
     run.tally.octets += 1;
@@ -93,7 +94,7 @@ fn compare_check(
     let record = as_record(run.fences.record.lent());
     let plain = reference::check(header, lending.count);
     same_size("check", plain, library::check(record, lending.count as usize)?)?;
-    run.tally.note(Kind::OctetsCheck, plain.err().unwrap_or(0))?;
+    run.tally.note(Kind::OctetsCheck, &plain)?;
     Ok(plain.ok())
 }
 
@@ -125,13 +126,13 @@ fn compare_write(
     same_size("write", plain, got)?;
     same_octets("write", &other, out.lent())?;
     out.intact()?;
-    run.tally.note(Kind::OctetsWrite, plain.err().unwrap_or(0))
+    run.tally.note(Kind::OctetsWrite, &plain)
 }
 
 /// A call that takes a record to the table, as each of the two programs has it.
 struct OnTable {
     kind: Kind,
-    plain: fn(&mut Board, &Header, u32, u64) -> u32,
+    plain: fn(&mut Board, &Header, u32, u64) -> Told,
     proved: fn(&mut TableOctets, &RecordOctets, u32, usize) -> Result<Answer, String>,
 }
 
@@ -150,9 +151,9 @@ fn compare_on_table(
     let record = as_record(run.fences.record.lent());
     let Lending { count, block, .. } = *lending;
     let mut plain = pair.plain.clone();
-    let number = (call.plain)(&mut plain, header, block, count);
+    let told = (call.plain)(&mut plain, header, block, count);
     let mut table = pair.table;
     let got = (call.proved)(&mut table, record, block, count as usize)?;
-    same_table(number, &images::after(&pair.table, &pair.plain, &plain), got, &table)?;
-    run.tally.note(call.kind, number)
+    same_table(told, &images::after(&pair.table, &pair.plain, &plain), got, &table)?;
+    run.tally.note(call.kind, &told)
 }

@@ -69,6 +69,17 @@ pub fn rich(random: &mut Random) -> Case {
     Maker { random, often: 6 }.case(blocks)
 }
 
+/// A record mostly of several blocks, for what is wrong between fields: the block that is told should not always be the
+/// first.
+pub fn several(random: &mut Random) -> Case {
+    let blocks = match random.below(16) {
+        0 => 2 + random.index(MAX_BLOCKS - 1),
+        1..=11 => 2 + random.index(3),
+        _ => 1,
+    };
+    Maker { random, often: 4 }.case(blocks)
+}
+
 /// Makes parts of records; of 8 optional ones `often` are present.
 pub struct Maker<'a> {
     pub random: &'a mut Random,
@@ -148,7 +159,7 @@ impl Maker<'_> {
         (0..length).map(|_| self.address()).collect()
     }
 
-    fn response(&mut self) -> Response {
+    pub fn response(&mut self) -> Response {
         let code = 1 + self.random.below(6);
         let reasons = (self.maybe(|m| m.number(8)), self.maybe(|m| m.number(64)));
         Response {

@@ -13,6 +13,7 @@ use crate::fenced::{self, Fenced, Side};
 use crate::headers::{compare_both_ways, compare_datagram, compare_record};
 use crate::illformed;
 use crate::octets::{self, Scene};
+use crate::pairs;
 use crate::random::Random;
 use crate::records::{self, Case};
 use crate::rubbish::Rubbish;
@@ -77,10 +78,17 @@ pub fn as_key(lent: &[u8]) -> &KeyOctets {
     KeyOctets::lent(lent.try_into().expect("a key's octets"))
 }
 
+/// Whose turn it is.
+fn turn_of<T>(list: &[T], turn: u64) -> usize {
+    (turn % list.len() as u64) as usize
+}
+
 pub struct Run {
     pub random: Random,
     pub rubbish: Rubbish,
     pub damages: Vec<Damage>,
+    /// The places among them of those between fields.
+    between: Vec<usize>,
     /// Of a record.
     pub places: Places,
     /// Of a table.
@@ -95,7 +103,8 @@ impl Run {
         let rubbish = Rubbish::new(&mut random);
         let (places, table_places) = (Places::of::<Header>(), Places::of::<Table>());
         let (damages, fences) = (damage::all(), Fences::new());
-        Run { random, rubbish, damages, places, table_places, fences, tally }
+        let between = (0..damages.len()).filter(|i| damages[*i].between()).collect();
+        Run { random, rubbish, damages, between, places, table_places, fences, tally }
     }
 
     /// Turns until so many inputs more were compared.
@@ -135,9 +144,11 @@ impl Run {
 
     fn turn(&mut self, turn: u64) -> Result<(), String> {
         self.valid()?;
-        self.damaged(2 * turn)?;
-        self.damaged(2 * turn + 1)?;
+        self.damaged(turn_of(&self.damages, 2 * turn))?;
+        self.damaged(turn_of(&self.damages, 2 * turn + 1))?;
+        self.damaged(self.between[turn_of(&self.between, turn)])?;
         self.damaged_twice()?;
+        self.broken()?;
         match turn % 8 {
             0 | 4 => tables::compare_list(self)?,
             2 => illformed::compare_spoiled(self, turn / 8)?,
@@ -166,15 +177,14 @@ impl Run {
     }
 
     /// A record with one damage, which has its own refusal, and the datagram of it.
-    fn damaged(&mut self, turn: u64) -> Result<(), String> {
-        let damage = &self.damages[(turn % self.damages.len() as u64) as usize];
-        let (name, number) = (damage.name.clone(), damage.number);
-        let case = damage.case(&mut self.random);
+    fn damaged(&mut self, which: usize) -> Result<(), String> {
+        let (case, refusal) = self.damages[which].case(&mut self.random);
         compare_record(self, &case)?;
         let plain = reference::check(&case.record, case.count);
-        if plain != Err(number) {
+        if plain != Err(refusal) {
+            let name = &self.damages[which].name;
             return Err(format!(
-                "{name}: both programs answer {plain:?}, not {number}\ninput: {case:?}"
+                "{name}: both programs answer {plain:?}, not {refusal:?}\ninput: {case:?}"
             ));
         }
         let datagram = datagrams::of_record(&case, Extra::default(), &mut self.random);
@@ -182,20 +192,44 @@ impl Run {
         Ok(())
     }
 
-    /// A damaged record; each refusal is as likely as the others.
-    pub fn damaged_case(&mut self) -> Case {
-        let number = *self.random.pick(&[2, 3, 4, 5, 6, 8, 10, 12]);
+    /// A record with one damage; each of these numbers is as likely as the others.
+    fn refused_with(&mut self, numbers: &[u32]) -> Case {
+        let number = *self.random.pick(numbers);
         let fitting: Vec<&Damage> = self.damages.iter().filter(|d| d.number == number).collect();
-        self.random.pick(&fitting).case(&mut self.random)
+        self.random.pick(&fitting).case(&mut self.random).0
+    }
+
+    /// A damaged record.
+    pub fn damaged_case(&mut self) -> Case {
+        self.refused_with(&[2, 3, 4, 5, 6, 12])
+    }
+
+    /// A record in which a rule is broken or a size is wrong, often in a later block, and at times more than that.
+    pub fn broken_case(&mut self) -> Case {
+        if self.random.one_in(4) {
+            return pairs::broken(&self.damages, &mut self.random);
+        }
+        self.refused_with(&[41, 42, 43, 44, 45, 46, 47, 48, 49, 52, 53, 54])
     }
 
     /// Two damages in one record: the order of the checks decides.
     fn damaged_twice(&mut self) -> Result<(), String> {
         let (i, j) = (self.random.index(self.damages.len()), self.random.index(self.damages.len()));
-        let mut case = self.damages[i].case(&mut self.random);
+        let mut case = self.damages[i].case(&mut self.random).0;
         self.damages[j].add(&mut case, &mut self.random);
         compare_record(self, &case)?;
         let datagram = datagrams::of_record(&case, Extra::default(), &mut self.random);
+        compare_datagram(self, &datagram)?;
+        Ok(())
+    }
+
+    /// Several things wrong between fields, and in the datagram at times the header size as well.
+    fn broken(&mut self) -> Result<(), String> {
+        let case = pairs::broken(&self.damages, &mut self.random);
+        compare_record(self, &case)?;
+        let size = if self.random.one_in(3) { 1 + self.random.below(9) } else { 0 };
+        let extra = Extra { size, ..Extra::default() };
+        let datagram = datagrams::of_record(&case, extra, &mut self.random);
         compare_datagram(self, &datagram)?;
         Ok(())
     }

@@ -5,7 +5,7 @@ use std::mem::{offset_of, size_of};
 
 use pruvelaccio::raw::{Answer, SizeAnswer};
 use pruvelaccio::{Header, RecordOctets, TableOctets, TABLE};
-use reference::Board;
+use reference::{Board, Refusal};
 
 use crate::fenced::{Fenced, Side};
 use crate::headers::{same_octets, same_reading, same_size};
@@ -23,9 +23,10 @@ const DATAGRAM: [u8; 17] =
 
 /// How many damaged answers were tried; an error names one that passed.
 pub fn run() -> Result<usize, String> {
-    let tried = [readings(), refused_readings(), sizes(), tables(), images(), fences(), counts()];
+    let readings = [readings(), refused_readings(), refused_for_a_block()];
+    let others = [sizes(), tables(), images(), fences(), counts()];
     let mut damaged = 0;
-    for (name, reported, outcome) in tried.into_iter().flatten() {
+    for (name, reported, outcome) in readings.into_iter().chain(others).flatten() {
         if outcome.is_err() != reported {
             return Err(format!("self-check: {name} gives {outcome:?}"));
         }
@@ -57,7 +58,7 @@ fn readings() -> Vec<Tried> {
     let plain = reference::read(&DATAGRAM);
     let before = RecordOctets::from(BEFORE);
     let after = plain.as_ref().map_or(before, |(record, _)| laid::alone(record));
-    let good = SizeAnswer { number: 0, place: 0, length: 16 };
+    let good = SizeAnswer { number: 0, block: 0, place: 0, length: 16 };
     let of = |change| same_reading(&plain, &before, &with(&good, change), &after);
     let at = |offset| same_reading(&plain, &before, &good, &spoiled(&after, offset));
     let last = pruvelaccio::RECORD - 1;
@@ -65,6 +66,7 @@ fn readings() -> Vec<Tried> {
         ("a reading", false, of(|_| {})),
         ("its number", true, of(|a| a.number = 1)),
         ("its place", true, of(|a| a.place = 1)),
+        ("its block", true, of(|a| a.block = 1)),
         ("its length", true, of(|a| a.length = 15)),
         ("a used number", true, at(offset_of!(Header, front.originator.address.urn.value))),
         ("a used flag", true, at(offset_of!(Header, front.originator.present))),
@@ -80,18 +82,34 @@ fn readings() -> Vec<Tried> {
 fn refused_readings() -> Vec<Tried> {
     let plain = reference::read(&DATAGRAM[..3]);
     let before = RecordOctets::from(BEFORE);
-    let good = SizeAnswer { number: 1, place: 7, length: 0 };
+    let good = SizeAnswer { number: 1, block: 0, place: 7, length: 0 };
     let of = |change| same_reading(&plain, &before, &with(&good, change), &before);
     let at = |offset| same_reading(&plain, &before, &good, &spoiled(&before, offset));
     let cleared = same_reading(&plain, &before, &good, &RecordOctets::zero());
     vec![
         ("a refused reading", false, of(|_| {})),
         ("its place too far", true, of(|a| a.place = 8)),
+        ("a block beside it", true, of(|a| a.block = 1)),
         ("another refusal", true, of(|a| a.number = 3)),
         ("a length beside it", true, of(|a| a.length = 3)),
         ("the first octet beside it", true, at(0)),
         ("an octet between the cells beside it", true, at(offset_of!(Header, sized) + 1)),
         ("a cleared record beside it", true, cleared),
+    ]
+}
+
+/// The message has no data: its one block is told.
+fn refused_for_a_block() -> Vec<Tried> {
+    let plain = reference::read(&DATAGRAM[..16]);
+    let before = RecordOctets::from(BEFORE);
+    let good = SizeAnswer { number: 53, block: 1, place: 0, length: 0 };
+    let of = |change| same_reading(&plain, &before, &with(&good, change), &before);
+    vec![
+        ("a reading refused for a block", false, of(|_| {})),
+        ("another block", true, of(|a| a.block = 2)),
+        ("no block", true, of(|a| a.block = 0)),
+        ("its place beside the block", true, of(|a| a.place = 1)),
+        ("another number of the block", true, of(|a| a.number = 54)),
     ]
 }
 
@@ -114,17 +132,21 @@ fn fences() -> Vec<Tried> {
 }
 
 fn sizes() -> Vec<Tried> {
-    let told = |number, place, length| SizeAnswer { number, place, length };
+    let told = |number, block, place, length| SizeAnswer { number, block, place, length };
     let done = |answer| same_size("check", Ok(5), answer);
-    let refused = |answer| same_size("check", Err(10), answer);
+    let refused = |answer| same_size("check", Err(Refusal::in_block(54, 3)), answer);
     vec![
-        ("a size", false, done(told(0, 0, 5))),
-        ("another size", true, done(told(0, 0, 6))),
-        ("a refusal for a size", true, done(told(11, 0, 0))),
-        ("a refusal", false, refused(told(10, 0, 0))),
-        ("its place", true, refused(told(10, 1, 0))),
-        ("its size", true, refused(told(10, 0, 5))),
-        ("a size for a refusal", true, refused(told(0, 0, 5))),
+        ("a size", false, done(told(0, 0, 0, 5))),
+        ("another size", true, done(told(0, 0, 0, 6))),
+        ("a block beside a size", true, done(told(0, 1, 0, 5))),
+        ("a refusal for a size", true, done(told(11, 0, 0, 0))),
+        ("a refusal", false, refused(told(54, 3, 0, 0))),
+        ("its number", true, refused(told(53, 3, 0, 0))),
+        ("its block", true, refused(told(54, 2, 0, 0))),
+        ("no block", true, refused(told(54, 0, 0, 0))),
+        ("its place", true, refused(told(54, 3, 1, 0))),
+        ("its size", true, refused(told(54, 3, 0, 5))),
+        ("a size for a refusal", true, refused(told(0, 0, 0, 5))),
         ("octets", false, same_octets("write", &[1, 2, 3], &[1, 2, 3])),
         ("the last octet", true, same_octets("write", &[1, 2, 3], &[1, 2, 4])),
         ("an octet less", true, same_octets("write", &[1, 2, 3], &[1, 2])),
@@ -139,12 +161,15 @@ fn tables() -> Vec<Tried> {
     let pool = Pool::new(&mut random);
     let plain: Board = pool::table(&pool, 31, &mut random);
     let table = laid::table_alone(&plain);
-    let good = Answer { number: 26, place: 0 };
-    let of = |change| same_table(26, &table, with(&good, change), &table);
+    let (told, good) = (Err(Refusal::new(26)), Answer { number: 26, block: 0, place: 0 });
+    let of = |change| same_table(told, &table, with(&good, change), &table);
+    let (blamed, fourth) =
+        (Err(Refusal::in_block(46, 4)), Answer { number: 46, block: 4, place: 0 });
+    let of_block = |change| same_table(blamed, &table, with(&fourth, change), &table);
     let at = |offset: usize| {
         let mut after = table;
         after.octets_mut()[offset] ^= 1;
-        same_table(26, &table, good, &after)
+        same_table(told, &table, good, &after)
     };
     let row = size_of::<pruvelaccio::Row>();
     let (key, asked) = (offset_of!(pruvelaccio::Row, key), offset_of!(pruvelaccio::Row, asked));
@@ -152,6 +177,10 @@ fn tables() -> Vec<Tried> {
         ("a call", false, of(|_| {})),
         ("its number", true, of(|a| a.number = 0)),
         ("its place", true, of(|a| a.place = 1)),
+        ("its block", true, of(|a| a.block = 1)),
+        ("a call refused for a block", false, of_block(|_| {})),
+        ("another block", true, of_block(|a| a.block = 3)),
+        ("no block", true, of_block(|a| a.block = 0)),
         ("a key", true, at(7 * row + key)),
         ("a request", true, at(30 * row + asked)),
         ("an octet between the cells", true, at(asked + 3)),
@@ -183,15 +212,25 @@ fn images() -> Vec<Tried> {
 }
 
 fn same_after(expected: &TableOctets, after: &TableOctets) -> Result<(), String> {
-    same_table(0, expected, Answer { number: 0, place: 0 }, after)
+    same_table(Ok(()), expected, Answer { number: 0, block: 0, place: 0 }, after)
 }
 
 fn counts() -> Vec<Tried> {
     let mut tally = Tally::new();
     let lacking = if tally.lacking().is_empty() { Ok(()) } else { Err(String::new()) };
+    let mut note = |kind, refusal| tally.note(kind, &Err::<(), Refusal>(refusal));
     vec![
-        ("a refusal that a call can give", false, tally.note(Kind::Release, 26)),
-        ("one that it cannot", true, tally.note(Kind::Release, 5)),
+        ("a refusal that a call can give", false, note(Kind::Release, Refusal::new(26))),
+        ("one that it cannot", true, note(Kind::Release, Refusal::new(5))),
+        ("one that is no more", true, note(Kind::Check, Refusal::new(8))),
+        ("a reading's alone", true, note(Kind::Check, Refusal::new(51))),
+        ("a block that is told", false, note(Kind::Check, Refusal::in_block(46, 16))),
+        ("the lacking header size", false, note(Kind::Check, Refusal::new(46))),
+        ("a block behind the last", true, note(Kind::Check, Refusal::in_block(46, 17))),
+        ("a block that is not told", true, note(Kind::Check, Refusal::new(47))),
+        ("a block that nobody tells", true, note(Kind::Read, Refusal::in_block(52, 1))),
+        ("a place that is told", false, note(Kind::Read, Refusal::at(9, 33))),
+        ("a place that nobody tells", true, note(Kind::Check, Refusal::at(3, 33))),
         ("nothing seen", true, lacking),
     ]
 }
@@ -201,6 +240,7 @@ mod tests {
     use super::*;
     use crate::cells::{Cell, Cells, Places};
     use crate::convert;
+    use crate::tally::LEAST;
     use pruvelaccio::{KeyOctets, Table};
 
     /// Changes the k-th cell; false behind the last one.
@@ -353,11 +393,24 @@ mod tests {
         let mut random = Random::new(3);
         for damage in crate::damage::all() {
             for _ in 0..20 {
-                let case = damage.case(&mut random);
-                let number = reference::check(&case.record, case.count);
-                assert_eq!(number, Err(damage.number), "{}: {case:?}", damage.name);
+                let (case, refusal) = damage.case(&mut random);
+                let plain = reference::check(&case.record, case.count);
+                assert_eq!(plain, Err(refusal), "{}: {case:?}", damage.name);
             }
         }
+    }
+
+    /// A number that came up for the first block alone is still lacking.
+    #[test]
+    fn later_blocks_are_demanded() {
+        let mut tally = Tally::new();
+        for _ in 0..LEAST {
+            assert!(tally.note(Kind::Check, &Err::<(), _>(Refusal::in_block(46, 1))).is_ok());
+        }
+        let lacks = |words: &str| tally.lacking().iter().any(|line| line.starts_with(words));
+        assert!(!lacks("check 46:"));
+        assert!(lacks("check 46, later: 0") && lacks("check 46, header: 0"));
+        assert!(lacks("read 51:") && !lacks("check 51:"));
     }
 
     #[test]
@@ -367,6 +420,8 @@ mod tests {
             let case = crate::records::case(&mut random);
             assert!(reference::check(&case.record, case.count).is_ok(), "{case:?}");
             let case = crate::records::rich(&mut random);
+            assert!(reference::check(&case.record, case.count).is_ok(), "{case:?}");
+            let case = crate::records::several(&mut random);
             assert!(reference::check(&case.record, case.count).is_ok(), "{case:?}");
         }
     }

@@ -4,7 +4,7 @@
 
 use pruvelaccio::raw::{Answer, SizeAnswer};
 use pruvelaccio::{KeyOctets, TableOctets};
-use reference::{Board, Header, Key};
+use reference::{Board, Header, Key, Refusal};
 
 use crate::any_tables;
 use crate::fenced::Fenced;
@@ -15,7 +15,7 @@ use crate::octets::Scene;
 use crate::random::Random;
 use crate::records::Case;
 use crate::run::{as_key, as_table, as_table_mut, caught, side, Run};
-use crate::tables::{self, same_table};
+use crate::tables::{self, same_table, Told};
 use crate::taken;
 use crate::tally::Kind;
 
@@ -36,12 +36,12 @@ pub struct Arguments {
     pub row: u32,
 }
 
-/// What the four calls answered: 0 for done, or a refusal.
+/// What the four calls answered.
 pub struct Answers {
-    pub post: u32,
-    pub receipt: u32,
-    pub release: u32,
-    pub list_row: u32,
+    pub post: Told,
+    pub receipt: Told,
+    pub release: Told,
+    pub list_row: Result<usize, Refusal>,
 }
 
 fn lending(run: &mut Run, case: Case) -> Lending {
@@ -72,10 +72,10 @@ pub fn compare_turn(run: &mut Run, scene: &Scene, turn: u64) -> Result<(), Strin
     let arguments = arguments(run, scene, &base.plain);
     run.tally.tables += 1;
     let answers = compare_calls(run, &table, &arguments)?;
-    run.tally.note(Kind::TablePost, answers.post)?;
-    run.tally.note(Kind::TableReceipt, answers.receipt)?;
-    run.tally.note(Kind::TableRelease, answers.release)?;
-    run.tally.note(Kind::TableListRow, answers.list_row)
+    run.tally.note(Kind::TablePost, &answers.post)?;
+    run.tally.note(Kind::TableReceipt, &answers.receipt)?;
+    run.tally.note(Kind::TableRelease, &answers.release)?;
+    run.tally.note(Kind::TableListRow, &answers.list_row)
 }
 
 /// All four calls on a table, each on the octets as they are given.
@@ -132,27 +132,32 @@ impl LentTable<'_> {
     fn call(
         &mut self,
         plain: &mut Board,
-        second: impl FnOnce(&mut Board) -> u32,
+        second: impl FnOnce(&mut Board) -> Told,
         proved: impl FnOnce(&mut TableOctets) -> Result<Answer, String>,
-    ) -> Result<u32, String> {
-        let number = second(plain);
+    ) -> Result<Told, String> {
+        let told = second(plain);
         let mut expected = *self.octets;
-        if number == 0 {
+        if told.is_ok() {
             let after = std::mem::replace(plain, taken::table(self.octets));
             expected = images::after(self.octets, plain, &after);
         }
         self.table.hold(self.octets.octets(), side(self.random));
-        if number != 0 && self.random.one_in(4) {
+        if told.is_err() && self.random.one_in(4) {
             self.table.close();
         }
         let got = proved(as_table_mut(self.table.lent_mut()))?;
-        same_table(number, &expected, got, as_table(self.table.lent()))?;
+        same_table(told, &expected, got, as_table(self.table.lent()))?;
         self.table.intact()?;
-        Ok(number)
+        Ok(told)
     }
 
     /// A row of the listing, into exact room, an octet less, none, or more.
-    fn list_row(&mut self, plain: &Board, row: u32, out: &mut Fenced) -> Result<u32, String> {
+    fn list_row(
+        &mut self,
+        plain: &Board,
+        row: u32,
+        out: &mut Fenced,
+    ) -> Result<Result<usize, Refusal>, String> {
         let length = reference::listing(plain, row).map_or(0, |text| text.len());
         let more = length + self.random.index(64);
         let room = *self.random.pick(&[length, length.saturating_sub(1), 0, more]);
@@ -167,7 +172,7 @@ impl LentTable<'_> {
         same_size("list_row", listed, got)?;
         same_octets("list_row", &other, out.lent())?;
         out.intact()?;
-        Ok(listed.err().unwrap_or(0))
+        Ok(listed)
     }
 
     /// The library's row; the table stays as it is, and now and then cannot be stored to.

@@ -29,16 +29,24 @@ pub struct Pair {
     pub plain: Board,
 }
 
-/// The answer, and every octet of the table.
+/// What the second program answers to a call on the table.
+pub type Told = Result<(), reference::Refusal>;
+
+/// With what a call was refused, if both programs say so.
+pub type Refused = Result<Option<reference::Refusal>, String>;
+
+/// The answer with its number, block and place, and every octet of the table.
 pub fn same_table(
-    number: u32,
+    told: Told,
     expected: &TableOctets,
     got: Answer,
     after: &TableOctets,
 ) -> Result<(), String> {
-    let own = (got.number, got.place);
-    if own != (number, 0) {
-        return Err(format!("the second program gives {number} at 0, the library {own:?}"));
+    let reference::Refusal { number, place, block } =
+        told.err().unwrap_or(reference::Refusal::new(0));
+    let due = Answer { number, block, place };
+    if due != got {
+        return Err(format!("the second program gives {due:?}, the library {got:?}"));
     }
     if expected == after {
         return Ok(());
@@ -51,8 +59,8 @@ pub fn same_table(
     ))
 }
 
-/// One call to both; the pair goes on with what each made of it.
-pub fn compare_call(run: &mut Run, pair: &mut Pair, call: &Call) -> Result<u32, String> {
+/// One call to both; the pair goes on with what each made of it. Gives the refusal if there was one.
+pub fn compare_call(run: &mut Run, pair: &mut Pair, call: &Call) -> Refused {
     compare_in(run, &mut pair.table, &mut pair.plain, call)
 }
 
@@ -62,20 +70,20 @@ pub fn compare_in(
     table: &mut TableOctets,
     plain: &mut Board,
     call: &Call,
-) -> Result<u32, String> {
+) -> Refused {
     run.tally.calls += 1;
     let before = plain.clone();
-    let told = |text| format!("{text}\ninput: {call:?}\ntable before: {before:?}");
+    let described = |text| format!("{text}\ninput: {call:?}\ntable before: {before:?}");
     let played = caught(|| {
         let octets = *table;
-        let (number, got) = play(run, table, plain, call)?;
-        same_table(number, &images::after(&octets, &before, plain), got, table)?;
-        if number == 0 {
+        let (told, got) = play(run, table, plain, call)?;
+        same_table(told, &images::after(&octets, &before, plain), got, table)?;
+        if told.is_ok() {
             same_rows(plain, table)?;
         }
-        Ok(number)
+        Ok(told.err())
     });
-    played.map_err(told)
+    played.map_err(described)
 }
 
 /// The octets hold the rows.
@@ -87,13 +95,13 @@ fn same_rows(plain: &Board, table: &TableOctets) -> Result<(), String> {
     Err(format!("tables differ\nsecond program: {plain:?}\nlibrary: {taken:?}"))
 }
 
-/// The call's number by the second program, and the library's answer.
+/// The second program's answer, and the library's.
 fn play(
     run: &mut Run,
     table: &mut TableOctets,
     plain: &mut Board,
     call: &Call,
-) -> Result<(u32, Answer), String> {
+) -> Result<(Told, Answer), String> {
     match call {
         Call::Post(case, block) => enter(run, &POST, (table, plain), case, *block),
         Call::Receipt(case, block) => enter(run, &RECEIPT, (table, plain), case, *block),
@@ -108,7 +116,7 @@ const STRUCTS: u32 = 8;
 struct OnTable {
     name: &'static str,
     kind: Kind,
-    plain: fn(&mut Board, &reference::Header, u32, u64) -> u32,
+    plain: fn(&mut Board, &reference::Header, u32, u64) -> Told,
     proved: fn(&mut TableOctets, &Header, u32, usize) -> Result<Answer, String>,
     whole: fn(&mut Table, &Header, u32, usize) -> Result<(), Refusal>,
 }
@@ -135,17 +143,17 @@ fn enter(
     (table, plain): (&mut TableOctets, &mut Board),
     case: &Case,
     block: u32,
-) -> Result<(u32, Answer), String> {
+) -> Result<(Told, Answer), String> {
     let (before, count) = (*table, case.count as usize);
     let header = run.rubbish.header(case, &mut run.random);
-    let number = (call.plain)(plain, &case.record, block, case.count);
+    let told = (call.plain)(plain, &case.record, block, case.count);
     let got = (call.proved)(table, &header, block, count)?;
     if run.random.one_in(STRUCTS) {
         let whole = |t: &mut Table| (call.whole)(t, &header, block, count);
         library::same_struct(call.name, &before, (got, table), whole)?;
     }
-    run.tally.note(call.kind, number)?;
-    Ok((number, got))
+    run.tally.note(call.kind, &told)?;
+    Ok((told, got))
 }
 
 fn take_out(
@@ -153,17 +161,17 @@ fn take_out(
     table: &mut TableOctets,
     plain: &mut Board,
     from: &Key,
-) -> Result<(u32, Answer), String> {
+) -> Result<(Told, Answer), String> {
     let before = *table;
     let key = run.rubbish.key(from, &mut run.random);
-    let number = reference::release(plain, from);
+    let told = reference::release(plain, from);
     let got = library::release(table, &key)?;
     if run.random.one_in(STRUCTS) {
         let whole = |t: &mut Table| t.release(&(&key).into());
         library::same_struct("release", &before, (got, table), whole)?;
     }
-    run.tally.note(Kind::Release, number)?;
-    Ok((number, got))
+    run.tally.note(Kind::Release, &told)?;
+    Ok((told, got))
 }
 
 // ---------------------------------------------------------------------------
@@ -238,15 +246,16 @@ pub fn key(pool: &Pool, plain: &Board, random: &mut Random) -> Key {
     key
 }
 
-/// The record of a posting or a receipt: made of the pool, any valid one, or a damaged one.
+/// The record of a posting or a receipt: made of the pool, any valid one, a damaged one, or one that breaks a rule.
 pub fn record(run: &mut Run, pool: &Pool, plain: &Board, posting: bool) -> Case {
     let random = &mut run.random;
     match random.below(24) {
         0 => records::case(random),
         1 | 2 => run.damaged_case(),
+        3..=6 => run.broken_case(),
         // The other kind of message: 20 for a posting, 24 for a receipt.
-        3 if posting => receipt(pool, plain, random),
-        3 => pool::message(pool, random),
+        7 if posting => receipt(pool, plain, random),
+        7 => pool::message(pool, random),
         _ if posting => pool::message(pool, random),
         _ => receipt(pool, plain, random),
     }

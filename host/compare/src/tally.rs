@@ -2,6 +2,8 @@
 
 use std::ops::Range;
 
+use reference::Refusal;
+
 /// The calls of the product that can be refused.
 #[derive(Clone, Copy)]
 pub enum Kind {
@@ -24,16 +26,25 @@ pub enum Kind {
     TableListRow,
 }
 
-const CHECK: &[u32] = &[2, 3, 4, 5, 6, 8, 10, 12];
-const WRITE: &[u32] = &[2, 3, 4, 5, 6, 8, 10, 11, 12];
-const POST: &[u32] = &[2, 3, 4, 5, 6, 8, 10, 12, 20, 21, 22, 23, 29, 30];
-const RECEIPT: &[u32] = &[2, 3, 4, 5, 6, 8, 10, 12, 24, 25, 26, 27, 28, 29, 30];
-const RELEASE: &[u32] = &[3, 4, 6, 26, 30];
-const LIST_ROW: &[u32] = &[11, 30];
+/// Refusals of a record's fields, the rules (a) to (i), and the sizes that a record can have wrong.
+const FIELDS: &[u32] = &[2, 3, 4, 5, 6];
+const RULES: &[u32] = &[41, 42, 43, 44, 45, 46, 47, 48, 49];
+const SIZES: &[u32] = &[52, 53, 54];
+
+/// The refusals of a call, in parts.
+type Parts = &'static [&'static [u32]];
+
+const READ: Parts = &[&[1], FIELDS, &[7, 9], RULES, &[51], SIZES, &[12]];
+const CHECK: Parts = &[FIELDS, RULES, SIZES, &[12]];
+const WRITE: Parts = &[FIELDS, RULES, SIZES, &[11, 12]];
+const POST: Parts = &[FIELDS, RULES, SIZES, &[12, 20, 21, 22, 23, 29, 30]];
+const RECEIPT: Parts = &[FIELDS, RULES, SIZES, &[12, 24, 25, 26, 27, 28, 29, 30]];
+const RELEASE: Parts = &[&[3, 4, 6, 26, 30]];
+const LIST_ROW: Parts = &[&[11, 30]];
 
 /// Each call's name, and the refusals that it can give.
-const KINDS: [(&str, &[u32]); 15] = [
-    ("read", &[1, 2, 3, 4, 5, 6, 7, 8, 9, 10, 12]),
+const KINDS: [(&str, Parts); 15] = [
+    ("read", READ),
     ("check", CHECK),
     ("write", WRITE),
     ("post", POST),
@@ -50,9 +61,30 @@ const KINDS: [(&str, &[u32]); 15] = [
     ("list_row, table", LIST_ROW),
 ];
 
-/// 0 stands for done.
-const NUMBERS: [u32; 24] =
-    [0, 1, 2, 3, 4, 5, 6, 7, 8, 9, 10, 11, 12, 20, 21, 22, 23, 24, 25, 26, 27, 28, 29, 30];
+/// Done, and every refusal.
+const NUMBERS: [u32; 35] = [
+    0, 1, 2, 3, 4, 5, 6, 7, 9, 11, 12, 20, 21, 22, 23, 24, 25, 26, 27, 28, 29, 30, 41, 42, 43, 44,
+    45, 46, 47, 48, 49, 51, 52, 53, 54,
+];
+
+/// 0 stands for done, which every call can be.
+fn possible(kind: usize, number: u32) -> bool {
+    number == 0 || KINDS[kind].1.iter().any(|part| part.contains(&number))
+}
+
+/// Whether the number tells a message block; 46 tells block 0 where the header's own size is lacking.
+fn names_block(number: u32) -> bool {
+    RULES.contains(&number) || number == 53 || number == 54
+}
+
+/// Whether a refusal has the block and the place that its number tells. Places are told by a reading alone.
+fn points_right(kind: Kind, refusal: Refusal) -> bool {
+    let Refusal { number, place, block } = refusal;
+    let first = u32::from(names_block(number) && number != 46);
+    let last = if names_block(number) { 16 } else { 0 };
+    let placed = matches!(kind, Kind::Read) && matches!(number, 1..=7 | 9);
+    (first..=last).contains(&block) && (place == 0 || placed)
+}
 
 pub const LEAST: u64 = 50;
 
@@ -70,15 +102,15 @@ impl Versions {
     }
 
     fn add(&mut self, other: &Versions) {
-        for (sums, counts) in
-            [(&mut self.taken, &other.taken), (&mut self.refused, &other.refused)]
+        for (sums, counts) in [(&mut self.taken, &other.taken), (&mut self.refused, &other.refused)]
         {
             sums.iter_mut().zip(counts).for_each(|(sum, n)| *sum += n);
         }
     }
 
     fn print(&self, what: &str) {
-        let words = |c: &[u64; 3]| format!("{} of version 1, {} of 2, {} of others", c[1], c[2], c[0]);
+        let words =
+            |c: &[u64; 3]| format!("{} of version 1, {} of 2, {} of others", c[1], c[2], c[0]);
         println!("{what} taken: {}; refused: {}", words(&self.taken), words(&self.refused));
     }
 
@@ -88,8 +120,62 @@ impl Versions {
     }
 }
 
+/// How often a number came up with no block, with the first and with a later one.
+type Blocks = [u64; 3];
+
+/// What a line of the counts is about: all answers with a number, or those about no block or about a later one.
+#[derive(Clone, Copy)]
+enum Part {
+    All,
+    Header,
+    Later,
+}
+
+#[derive(Clone, Copy)]
+struct Line {
+    number: u32,
+    part: Part,
+}
+
+/// Each number, and behind it the blocks that have to come up for it.
+fn lines() -> Vec<Line> {
+    let mut lines = Vec::new();
+    for number in NUMBERS {
+        lines.push(Line { number, part: Part::All });
+        if number == 46 {
+            lines.push(Line { number, part: Part::Header });
+        }
+        if names_block(number) {
+            lines.push(Line { number, part: Part::Later });
+        }
+    }
+    lines
+}
+
+impl Line {
+    fn label(&self) -> String {
+        match (self.number, self.part) {
+            (0, _) => "done".to_string(),
+            (number, Part::All) => number.to_string(),
+            (number, Part::Header) => format!("{number}, header"),
+            (number, Part::Later) => format!("{number}, later"),
+        }
+    }
+
+    fn of(&self, blocks: &Blocks) -> u64 {
+        match self.part {
+            Part::All => blocks.iter().sum(),
+            Part::Header => blocks[0],
+            Part::Later => blocks[2],
+        }
+    }
+}
+
+/// The counts of a call, by number.
+type Seen = [Blocks; 55];
+
 pub struct Tally {
-    seen: [[u64; 31]; KINDS.len()],
+    seen: [Seen; KINDS.len()],
     /// Of the records that were checked, and of the datagrams that were read.
     pub record_versions: Versions,
     pub datagram_versions: Versions,
@@ -108,7 +194,7 @@ pub struct Tally {
 
 impl Tally {
     pub fn new() -> Tally {
-        let seen = [[0; 31]; KINDS.len()];
+        let seen = [[[0; 3]; 55]; KINDS.len()];
         let (records, octets, tables, datagrams) = (0, 0, 0, 0);
         let (record_versions, datagram_versions) = (Versions::default(), Versions::default());
         Tally {
@@ -128,9 +214,8 @@ impl Tally {
 
     /// Adds another run's counts.
     pub fn add(&mut self, other: &Tally) {
-        for (sums, seen) in self.seen.iter_mut().zip(&other.seen) {
-            sums.iter_mut().zip(seen).for_each(|(sum, n)| *sum += n);
-        }
+        let sums = self.seen.iter_mut().flatten().flatten();
+        sums.zip(other.seen.iter().flatten().flatten()).for_each(|(sum, n)| *sum += n);
         self.record_versions.add(&other.record_versions);
         self.datagram_versions.add(&other.datagram_versions);
         self.needless_standards += other.needless_standards;
@@ -147,13 +232,18 @@ impl Tally {
         self.records + self.datagrams + self.calls
     }
 
-    /// Notes an answer. A number that the call cannot give is a difference even where both programs agree.
-    pub fn note(&mut self, kind: Kind, number: u32) -> Result<(), String> {
-        let (name, possible) = KINDS[kind as usize];
-        if number != 0 && !possible.contains(&number) {
+    /// Notes an answer. A number that the call cannot give, or one with a block or a place that it does not tell, is a
+    /// difference even where both programs agree.
+    pub fn note<T>(&mut self, kind: Kind, told: &Result<T, Refusal>) -> Result<(), String> {
+        let refusal = told.as_ref().err().copied().unwrap_or(Refusal::new(0));
+        let (name, number) = (KINDS[kind as usize].0, refusal.number);
+        if !possible(kind as usize, number) {
             return Err(format!("{name} was refused with {number}, which is none of its refusals"));
         }
-        self.seen[kind as usize][number as usize] += 1;
+        if !points_right(kind, refusal) {
+            return Err(format!("{name} gives {refusal:?}, which its number does not tell"));
+        }
+        self.seen[kind as usize][number as usize][refusal.block.min(2) as usize] += 1;
         Ok(())
     }
 
@@ -162,36 +252,36 @@ impl Tally {
         let (records, tables) = (Kind::OctetsCheck as usize, Kind::TablePost as usize);
         for (kinds, wide) in [(0..records, 10), (records..tables, 16), (tables..KINDS.len(), 16)] {
             let names = KINDS[kinds.clone()].iter().map(|(name, _)| format!("{name:>wide$}"));
-            println!("{:<8}{}{:>wide$}", "refusal", names.collect::<String>(), "all");
-            NUMBERS.iter().for_each(|number| self.print_line(*number, kinds.clone(), wide));
+            println!("{:<12}{}{:>wide$}", "refusal", names.collect::<String>(), "all");
+            lines().iter().for_each(|line| self.print_line(line, kinds.clone(), wide));
         }
         self.record_versions.print("records");
         self.datagram_versions.print("datagrams");
         println!("records of version 1 with a standard version: {}", self.needless_standards);
     }
 
-    fn print_line(&self, number: u32, kinds: Range<usize>, wide: usize) {
-        let label = if number == 0 { "done".to_string() } else { number.to_string() };
-        let mut line = format!("{label:<8}");
+    fn print_line(&self, line: &Line, kinds: Range<usize>, wide: usize) {
+        let mut text = format!("{:<12}", line.label());
         let mut all = 0;
-        for (seen, (_, possible)) in self.seen[kinds.clone()].iter().zip(&KINDS[kinds]) {
-            all += seen[number as usize];
-            if number == 0 || possible.contains(&number) {
-                line += &format!("{:>wide$}", seen[number as usize]);
-            } else {
-                line += &format!("{:>wide$}", "-");
-            }
+        for kind in kinds {
+            let count = line.of(&self.seen[kind][line.number as usize]);
+            all += count;
+            let cell = if possible(kind, line.number) { count.to_string() } else { "-".into() };
+            text += &format!("{cell:>wide$}");
         }
-        println!("{line}{all:>wide$}");
+        println!("{text}{all:>wide$}");
     }
 
-    /// Done and every refusal that came up too seldom, call by call.
+    /// Done and every refusal that came up too seldom, call by call; and those that seldom told a block behind the
+    /// first, or the lacking header size.
     pub fn lacking(&self) -> Vec<String> {
         let mut lacking = Vec::new();
-        for (seen, (name, possible)) in self.seen.iter().zip(KINDS) {
-            let numbers = [0].into_iter().chain(possible.iter().copied());
-            for number in numbers.filter(|n| seen[*n as usize] < LEAST) {
-                lacking.push(format!("{name} {number}: {} times", seen[number as usize]));
+        for (kind, seen) in self.seen.iter().enumerate() {
+            for line in lines().iter().filter(|line| possible(kind, line.number)) {
+                let count = line.of(&seen[line.number as usize]);
+                if count < LEAST {
+                    lacking.push(format!("{} {}: {count} times", KINDS[kind].0, line.label()));
+                }
             }
         }
         if !self.record_versions.shares_equal() || !self.datagram_versions.shares_equal() {

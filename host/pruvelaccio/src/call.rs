@@ -14,17 +14,17 @@ pub struct HeaderRead {
 }
 
 fn done(answer: raw::Answer) -> Result<(), Refusal> {
-    let raw::Answer { number, place } = answer;
+    let raw::Answer { number, block, place } = answer;
     if number == 0 {
         Ok(())
     } else {
-        Err(Refusal { number, place })
+        Err(Refusal { number, place, block })
     }
 }
 
 fn size(answer: raw::SizeAnswer) -> Result<usize, Refusal> {
-    let raw::SizeAnswer { number, place, length } = answer;
-    done(raw::Answer { number, place }).map(|()| length)
+    let raw::SizeAnswer { number, block, place, length } = answer;
+    done(raw::Answer { number, block, place }).map(|()| length)
 }
 
 /// Reads a datagram into a new record; unused cells are 0.

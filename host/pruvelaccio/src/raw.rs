@@ -6,17 +6,21 @@
 
 use crate::layout::{KEY, RECORD, TABLE};
 
+/// Number 0: done, with 0 in block and place. Otherwise a refusal with its message block and its bit place.
 #[repr(C)]
 #[derive(Clone, Copy, Debug, PartialEq, Eq)]
 pub struct Answer {
     pub number: u32,
+    pub block: u32,
     pub place: usize,
 }
 
+/// The same with a length, which is 0 beside a refusal.
 #[repr(C)]
 #[derive(Clone, Copy, Debug, PartialEq, Eq)]
 pub struct SizeAnswer {
     pub number: u32,
+    pub block: u32,
     pub place: usize,
     pub length: usize,
 }

@@ -37,8 +37,8 @@ macro_rules! layout {
 
 fn layout_in_rust() -> Vec<String> {
     let answers = layout! {
-        Answer { number, place }
-        SizeAnswer { number, place, length }
+        Answer { number, block, place }
+        SizeAnswer { number, block, place, length }
     };
     let structs = pruvelaccio::each_struct!(layout);
     structs.into_iter().chain(answers).collect()
@@ -91,11 +91,13 @@ fn sizes_and_offsets_of_a_record_are_those_of_the_layout() {
 fn meanings_are_those_of_the_c_header() {
     let header =
         std::fs::read_to_string(repository().join("include/pruvelaccio.h")).expect("the header");
-    let known = (1..=12).chain(20..=30);
-    for number in known {
-        let meaning = Refusal { number, place: 0 }.meaning();
+    let fields = [1, 2, 3, 4, 5, 6, 7, 9, 11, 12];
+    let known: Vec<u32> = fields.into_iter().chain(20..=30).chain(41..=49).chain(51..=54).collect();
+    for number in 1..=99 {
+        let meaning = Refusal { number, place: 0, block: 0 }.meaning();
         let line = format!("    case {number}: return \"{meaning}\";\n");
-        assert!(header.contains(&line), "{line}");
+        assert_eq!(header.contains(&line), known.contains(&number), "{line}");
+        assert_eq!(meaning != "unknown", known.contains(&number), "{number}: {meaning}");
     }
 }
 

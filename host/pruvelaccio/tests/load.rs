@@ -217,7 +217,7 @@ fn any_octets_behind_the_number_are_some_table() {
     let table = Table::from_octets(&octets).expect("any octets");
     assert!(table.rows[31].recipients[15].address.name.present && table.rows[0].asked.machine);
     assert_eq!(table.count, 0xA5A5_A5A5);
-    assert_eq!(table.list_row(0, &mut []), Err(Refusal { number: 30, place: 0 }));
+    assert_eq!(table.list_row(0, &mut []), Err(Refusal { number: 30, place: 0, block: 0 }));
 }
 
 #[test]

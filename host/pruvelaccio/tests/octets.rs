@@ -69,7 +69,7 @@ fn a_refusal_is_that_of_the_header() {
     let mut header = message();
     header.blocks.count = u32::MAX;
     let record = RecordOctets::from(&header);
-    let refusal = Refusal { number: 5, place: 0 };
+    let refusal = Refusal { number: 5, place: 0, block: 0 };
     let mut table = Table::empty();
     assert_eq!(check_octets(&record, MESSAGE_DATA), Err(refusal));
     assert_eq!(written(&record, MESSAGE_DATA), (Err(refusal), vec![PATTERN; 8192]));
@@ -174,7 +174,10 @@ fn any_octet_but_0_is_a_set_flag_of_a_table_and_of_a_key() {
     for octet in [1, 2, 3, 128, 255] {
         let (whole, octets) = tables();
         let mut loose = loose_table(&octets, octet);
-        assert_eq!(loose.post(&message(), 1, MESSAGE_DATA), Err(Refusal { number: 22, place: 0 }));
+        assert_eq!(
+            loose.post(&message(), 1, MESSAGE_DATA),
+            Err(Refusal { number: 22, place: 0, block: 0 })
+        );
         assert_eq!(loose, loose_table(&octets, octet));
         assert_eq!(loose.receipt(&receipts(), 1, 0), Ok(()));
         let first = loose_key(&KeyOctets::from(&whole.rows[0].key), octet);
@@ -188,7 +191,7 @@ fn any_octet_but_0_is_a_set_flag_of_a_table_and_of_a_key() {
 #[test]
 fn a_refusal_leaves_every_octet_of_a_table() {
     let record = RecordOctets::from(&message());
-    let refusal = Err(Refusal { number: 30, place: 0 });
+    let refusal = Err(Refusal { number: 30, place: 0, block: 0 });
     let mut table = TableOctets::from([PATTERN; TABLE]);
     assert_eq!(table.post(&message(), 1, MESSAGE_DATA), refusal);
     assert_eq!(table.post_octets(&record, 1, MESSAGE_DATA), refusal);
@@ -197,6 +200,6 @@ fn a_refusal_leaves_every_octet_of_a_table() {
     assert_eq!(table.release(&Key::zero()), refusal);
     assert_eq!(table.release_octets(&KeyOctets::from([PATTERN; KEY])), refusal);
     let mut out = [PATTERN; 64];
-    assert_eq!(table.list_row(0, &mut out), Err(Refusal { number: 30, place: 0 }));
+    assert_eq!(table.list_row(0, &mut out), Err(Refusal { number: 30, place: 0, block: 0 }));
     assert_eq!((table, out), (TableOctets::from([PATTERN; TABLE]), [PATTERN; 64]));
 }

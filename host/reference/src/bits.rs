@@ -1,9 +1,7 @@
 //! Single bits in and out.
 
 use crate::legal::MARKER;
-
-/// A refusal while reading: its number and its bit place.
-pub type Refusal = (u32, usize);
+use crate::refusal::Refusal;
 
 /// Bit k: octet k / 8, and within it the bit of weight 2^(k mod 8).
 pub fn bit_at(octets: &[u8], k: usize) -> bool {
@@ -33,7 +31,7 @@ impl<'a> BitReader<'a> {
     pub fn number(&mut self, width: usize) -> Result<u32, Refusal> {
         let start = self.place;
         if start + width > self.end() {
-            return Err((1, start));
+            return Err(Refusal::at(1, start));
         }
         let mut value: u32 = 0;
         let mut weight: u32 = 1;
@@ -54,17 +52,17 @@ impl<'a> BitReader<'a> {
     }
 
     /// A number that must also be legal; otherwise it is refused at its own
-    /// first bit with the given refusal.
+    /// first bit with the given number.
     pub fn code(
         &mut self,
         width: usize,
         legal: fn(u32) -> bool,
-        refusal: u32,
+        number: u32,
     ) -> Result<u32, Refusal> {
         let start = self.place;
         let value = self.number(width)?;
         if !legal(value) {
-            return Err((refusal, start));
+            return Err(Refusal::at(number, start));
         }
         Ok(value)
     }
@@ -84,7 +82,7 @@ impl<'a> BitReader<'a> {
             text.push(character);
         }
         if text.is_empty() {
-            return Err((4, start));
+            return Err(Refusal::at(4, start));
         }
         Ok(text)
     }

@@ -3,6 +3,7 @@
 use std::cmp::Ordering;
 
 use crate::legal::{MAX_ADDRESSEES, MAX_ROWS};
+use crate::refusal::Refusal;
 use crate::types::{Address, Block, Dtg, Header, Requests, Stamp};
 use crate::writer::{check, check_address, check_stamp};
 
@@ -120,7 +121,7 @@ pub fn key_order(x: &Key, y: &Key) -> Ordering {
 // Well-formedness
 
 /// Refusals 3, 4 and 6 of a key, the address before the stamp.
-fn check_key(key: &Key) -> Result<(), u32> {
+fn check_key(key: &Key) -> Result<(), Refusal> {
     check_address(&key.address)?;
     check_stamp(&key.stamp)
 }
@@ -205,22 +206,23 @@ fn answers_reply(code: u32) -> bool {
 }
 
 // ---------------------------------------------------------------------------
-// Calls. Each gives 0 when done, or a refusal; a refusal changes nothing.
+// Calls. Each is done or gives a refusal; a refusal changes nothing.
 
 /// Refusals that posting and receipt share, up to and with 29. Blocks are
-/// counted from 1, so there is no block 0.
+/// counted from 1, so there is no block 0. A fault of the record is told with
+/// the block that has it, which need not be the one that is asked for.
 fn find_block<'a>(
     board: &Board,
     h: &'a Header,
     number: u32,
     count: u64,
-) -> Result<&'a Block, u32> {
+) -> Result<&'a Block, Refusal> {
     if !well_formed(board) {
-        return Err(30);
+        return Err(Refusal::new(30));
     }
     check(h, count)?;
     if number == 0 || number as usize > h.blocks.len() {
-        return Err(29);
+        return Err(Refusal::new(29));
     }
     Ok(&h.blocks[number as usize - 1])
 }
@@ -234,23 +236,29 @@ fn find_row(board: &Board, key: &Key) -> Option<usize> {
     None
 }
 
+fn find_recipient(row: &Row, address: &Address) -> Option<usize> {
+    for i in 0..row.recipients.len() {
+        if row.recipients[i].address == *address {
+            return Some(i);
+        }
+    }
+    None
+}
+
 /// Puts an original message on the board.
-pub fn post(board: &mut Board, h: &Header, block: u32, count: u64) -> u32 {
-    let b = match find_block(board, h, block, count) {
-        Ok(b) => b,
-        Err(refusal) => return refusal,
-    };
+pub fn post(board: &mut Board, h: &Header, block: u32, count: u64) -> Result<(), Refusal> {
+    let b = find_block(board, h, block, count)?;
 
     let asked = match &b.requests {
         Some(q) => q.clone(),
-        None => return 20,
+        None => return Err(Refusal::new(20)),
     };
     if !asked.machine && !asked.acknowledge && !asked.reply {
-        return 20;
+        return Err(Refusal::new(20));
     }
     let list = match &h.recipients {
         Some(list) => list,
-        None => return 21,
+        None => return Err(Refusal::new(21)),
     };
     let key = match (&h.originator, &b.stamp) {
         (Some(address), Some(stamp)) => Key {
@@ -261,25 +269,27 @@ pub fn post(board: &mut Board, h: &Header, block: u32, count: u64) -> u32 {
         _ => unreachable!("a checked record that asks has an originator and a stamp"),
     };
     if find_row(board, &key).is_some() {
-        return 22;
+        return Err(Refusal::new(22));
     }
     if board.rows.len() >= MAX_ROWS {
-        return 23;
+        return Err(Refusal::new(23));
     }
 
     let mut recipients: Vec<Recipient> = Vec::new();
     for address in list {
         add_recipient(&mut recipients, address);
     }
-    let row = Row { key, asked, recipients };
+    add_row(board, Row { key, asked, recipients });
+    Ok(())
+}
 
-    // Ahead of the first row with a greater key.
+/// Puts a row ahead of the first one with a greater key.
+fn add_row(board: &mut Board, row: Row) {
     let mut at = 0;
     while at < board.rows.len() && key_order(&board.rows[at].key, &row.key) == Ordering::Less {
         at += 1;
     }
     board.rows.insert(at, row);
-    0
 }
 
 /// Puts an address at its place in the list, unless it stands there already.
@@ -302,23 +312,20 @@ fn add_recipient(recipients: &mut Vec<Recipient>, address: &Address) {
 }
 
 /// Takes an answer to a message on the board.
-pub fn receipt(board: &mut Board, h: &Header, block: u32, count: u64) -> u32 {
-    let b = match find_block(board, h, block, count) {
-        Ok(b) => b,
-        Err(refusal) => return refusal,
-    };
+pub fn receipt(board: &mut Board, h: &Header, block: u32, count: u64) -> Result<(), Refusal> {
+    let b = find_block(board, h, block, count)?;
 
     let response = match &b.response {
         Some(response) => response,
-        None => return 24,
+        None => return Err(Refusal::new(24)),
     };
     let answerer = match &h.originator {
         Some(address) => address,
-        None => return 25,
+        None => return Err(Refusal::new(25)),
     };
     let asker = match &h.recipients {
         Some(list) if list.len() == 1 => &list[0],
-        _ => return 25,
+        _ => return Err(Refusal::new(25)),
     };
     let key = Key {
         address: asker.clone(),
@@ -326,56 +333,53 @@ pub fn receipt(board: &mut Board, h: &Header, block: u32, count: u64) -> u32 {
     };
     let at = match find_row(board, &key) {
         Some(at) => at,
-        None => return 26,
+        None => return Err(Refusal::new(26)),
     };
 
     let row = &mut board.rows[at];
-    let mut who: Option<usize> = None;
-    for i in 0..row.recipients.len() {
-        if row.recipients[i].address == *answerer {
-            who = Some(i);
-        }
-    }
-    let who = match who {
+    let who = match find_recipient(row, answerer) {
         Some(who) => who,
-        None => return 27,
+        None => return Err(Refusal::new(27)),
     };
 
-    // Only cells without a code are written: the first answer stands.
-    let recipient = &mut row.recipients[who];
-    let mut settled = false;
-    if row.asked.machine && recipient.machine == 0 && answers_machine(response.code) {
-        recipient.machine = response.code;
-        settled = true;
-    }
-    if row.asked.acknowledge && recipient.acknowledge == 0 && answers_acknowledge(response.code) {
-        recipient.acknowledge = response.code;
-        settled = true;
-    }
-    if row.asked.reply && recipient.reply == 0 && answers_reply(response.code) {
-        recipient.reply = response.code;
-        settled = true;
-    }
-    if settled {
-        0
+    if settle(&row.asked, &mut row.recipients[who], response.code) {
+        Ok(())
     } else {
-        28
+        Err(Refusal::new(28))
     }
 }
 
+/// Writes a code to all that it answers and that is still open, and tells
+/// whether there was anything. Only cells without a code are written: the first
+/// answer stands.
+fn settle(asked: &Requests, r: &mut Recipient, code: u32) -> bool {
+    let mut settled = false;
+    if asked.machine && r.machine == 0 && answers_machine(code) {
+        r.machine = code;
+        settled = true;
+    }
+    if asked.acknowledge && r.acknowledge == 0 && answers_acknowledge(code) {
+        r.acknowledge = code;
+        settled = true;
+    }
+    if asked.reply && r.reply == 0 && answers_reply(code) {
+        r.reply = code;
+        settled = true;
+    }
+    settled
+}
+
 /// Takes a message off the board.
-pub fn release(board: &mut Board, key: &Key) -> u32 {
+pub fn release(board: &mut Board, key: &Key) -> Result<(), Refusal> {
     if !well_formed(board) {
-        return 30;
+        return Err(Refusal::new(30));
     }
-    if let Err(refusal) = check_key(key) {
-        return refusal;
-    }
+    check_key(key)?;
     match find_row(board, key) {
         Some(at) => {
             board.rows.remove(at);
-            0
+            Ok(())
         }
-        None => 26,
+        None => Err(Refusal::new(26)),
     }
 }

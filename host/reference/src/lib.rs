@@ -2,8 +2,8 @@
 //! answers can be laid beside those of the first one. It is slow and plain on
 //! purpose: one bit at a time, growing lists, no shared state.
 //!
-//! A refusal is its number from the paper; while reading it comes with a bit
-//! place, `(number, place)`.
+//! A refusal is its number from the paper, with the bit place or the block that
+//! it points at, if any.
 
 #![forbid(unsafe_code)]
 
@@ -13,6 +13,7 @@ mod legal;
 mod listing;
 mod program;
 mod reader;
+mod refusal;
 mod rules;
 mod types;
 mod writer;
@@ -20,7 +21,7 @@ mod writer;
 #[cfg(test)]
 mod tests;
 
-pub use bits::{bit_at, BitReader, BitWriter, Refusal};
+pub use bits::{bit_at, BitReader, BitWriter};
 pub use board::{
     address_order, key_order, post, receipt, release, well_formed, Board, Key, Recipient, Row,
 };
@@ -28,6 +29,7 @@ pub use legal::*;
 pub use listing::{list_row, listing};
 pub use program::program;
 pub use reader::{read, user_data};
+pub use refusal::Refusal;
 pub use types::{
     Address, Block, Dtg, Header, Identity, Reference, Requests, Response, Stamp,
 };

@@ -1,13 +1,14 @@
 //! The board in words, a row at a time.
 
 use crate::board::{well_formed, Board, Recipient, Row};
+use crate::refusal::Refusal;
 use crate::types::{Address, Dtg, Requests};
 
 /// The text of one row of the listing: number 0 is the count, 1 and up are the
 /// board's rows, and past the last one there is nothing to say.
-pub fn listing(board: &Board, row: u32) -> Result<Vec<u8>, u32> {
+pub fn listing(board: &Board, row: u32) -> Result<Vec<u8>, Refusal> {
     if !well_formed(board) {
-        return Err(30);
+        return Err(Refusal::new(30));
     }
     let number = row as usize;
     let mut text: Vec<u8> = Vec::new();
@@ -23,10 +24,10 @@ pub fn listing(board: &Board, row: u32) -> Result<Vec<u8>, u32> {
 
 /// The same, into the front of lent octets. Nothing fits everywhere, so a
 /// number past the last row is never too long.
-pub fn list_row(board: &Board, row: u32, out: &mut [u8]) -> Result<usize, u32> {
+pub fn list_row(board: &Board, row: u32, out: &mut [u8]) -> Result<usize, Refusal> {
     let text = listing(board, row)?;
     if out.len() < text.len() {
-        return Err(11);
+        return Err(Refusal::new(11));
     }
     for i in 0..text.len() {
         out[i] = text[i];

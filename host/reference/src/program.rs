@@ -54,7 +54,8 @@ fn digit_value(character: u8) -> Option<u8> {
     }
 }
 
-/// Each block goes to the board by itself, the first one first.
+/// Each block goes to the board by itself, the first one first. What the board
+/// answers is dropped on purpose.
 fn take_datagram(board: &mut Board, datagram: &[u8]) {
     let header = match read(datagram) {
         Ok((header, _)) => header,
@@ -64,9 +65,9 @@ fn take_datagram(board: &mut Board, datagram: &[u8]) {
     for (i, b) in header.blocks.iter().enumerate() {
         let number = i as u32 + 1;
         if b.response.is_some() {
-            receipt(board, &header, number, count);
+            let _ = receipt(board, &header, number, count);
         } else {
-            post(board, &header, number, count);
+            let _ = post(board, &header, number, count);
         }
     }
 }

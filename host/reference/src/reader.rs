@@ -1,16 +1,17 @@
 //! From a datagram to a record.
 
-use crate::bits::{bit_at, BitReader, Refusal};
+use crate::bits::{bit_at, BitReader};
 use crate::legal::*;
-use crate::rules::{rules_hold, sizes_hold};
+use crate::refusal::Refusal;
+use crate::rules::{check_header_size, check_rules, check_sizes};
 use crate::types::*;
 
 /// Reads the header. Gives the record and the number of header octets, or the
-/// refusal and its bit place.
+/// refusal.
 pub fn read(datagram: &[u8]) -> Result<(Header, usize), Refusal> {
     // A datagram that could never have been sent is not looked into at all.
     if datagram.len() > MAX_DATAGRAM {
-        return Err((12, 0));
+        return Err(Refusal::new(12));
     }
 
     let mut r = BitReader::new(datagram);
@@ -19,26 +20,17 @@ pub fn read(datagram: &[u8]) -> Result<(Header, usize), Refusal> {
     // What is left of the octet begun last must be zero.
     while r.place % 8 != 0 {
         if bit_at(datagram, r.place) {
-            return Err((9, r.place));
+            return Err(Refusal::at(9, r.place));
         }
         r.place += 1;
     }
     // Here, and only here, a bit place becomes a number of octets.
     let octets = r.place / 8;
 
-    if !rules_hold(&header) {
-        return Err((8, 0));
-    }
-
-    if let Some(size) = told_size {
-        if size as usize != octets {
-            return Err((10, 0));
-        }
-    }
+    check_rules(&header)?;
+    check_header_size(told_size, octets)?;
     let count = (datagram.len() - octets) as u64;
-    if !sizes_hold(&header, count) {
-        return Err((10, 0));
-    }
+    check_sizes(&header, count)?;
 
     Ok((header, octets))
 }
@@ -109,7 +101,7 @@ fn read_recurrence(r: &mut BitReader, before: usize, maximum: usize) -> Result<b
     let start = r.place;
     let again = r.flag()?;
     if again && before + 2 > maximum {
-        return Err((5, start));
+        return Err(Refusal::at(5, start));
     }
     Ok(again)
 }
@@ -134,7 +126,7 @@ fn read_information(r: &mut BitReader, taken: usize) -> Result<Option<Vec<Addres
     }
     // The group would hold at least one, and there is no room for it.
     if taken >= MAX_ADDRESSEES {
-        return Err((5, presence));
+        return Err(Refusal::at(5, presence));
     }
     Ok(Some(read_addressees(r, taken)?))
 }
@@ -158,7 +150,7 @@ fn read_address(r: &mut BitReader) -> Result<Address, Refusal> {
     let second = r.place;
     let named = r.flag()?;
     if named == urn.is_some() {
-        return Err((6, second));
+        return Err(Refusal::at(6, second));
     }
     let name = if named {
         Some(r.text(MAX_UNIT_NAME)?)
@@ -251,7 +243,7 @@ fn read_requests(r: &mut BitReader) -> Result<Requests, Refusal> {
 fn read_no_security(r: &mut BitReader) -> Result<(), Refusal> {
     let presence = r.place;
     if r.flag()? {
-        return Err((7, presence));
+        return Err(Refusal::at(7, presence));
     }
     Ok(())
 }

@@ -2,33 +2,32 @@
 
 use crate::bits::BitWriter;
 use crate::legal::*;
-use crate::rules::{rules_hold, sizes_hold};
+use crate::refusal::Refusal;
+use crate::rules::{check_rules, check_sizes};
 use crate::types::*;
 
 /// Every refusal of the writer except 11, with `count` octets of user data to
 /// follow. If there is none, gives the octets that the header will take.
-pub fn check(h: &Header, count: u64) -> Result<usize, u32> {
+pub fn check(h: &Header, count: u64) -> Result<usize, Refusal> {
     check_fields(h)?;
-    if !rules_hold(h) {
-        return Err(8);
-    }
-    if !sizes_hold(h, count) {
-        return Err(10);
-    }
+    check_rules(h)?;
+    // The header's own size is made here and not handed in, so it is never
+    // wrong (51).
+    check_sizes(h, count)?;
     let octets = header_octets(h).len();
     // The sum is taken wider than the count, which may be as large as it likes.
     if octets as u128 + u128::from(count) > MAX_DATAGRAM as u128 {
-        return Err(12);
+        return Err(Refusal::new(12));
     }
     Ok(octets)
 }
 
 /// Writes the header to the front of `out` and tells how many octets it took.
 /// Nothing is touched before every check has passed.
-pub fn write(h: &Header, count: u64, out: &mut [u8]) -> Result<usize, u32> {
+pub fn write(h: &Header, count: u64, out: &mut [u8]) -> Result<usize, Refusal> {
     let octets = check(h, count)?;
     if out.len() < octets {
-        return Err(11);
+        return Err(Refusal::new(11));
     }
     let header = header_octets(h);
     for i in 0..octets {
@@ -40,9 +39,9 @@ pub fn write(h: &Header, count: u64, out: &mut [u8]) -> Result<usize, u32> {
 // ---------------------------------------------------------------------------
 // Checks of single fields, in the order of the bits.
 
-fn check_fields(h: &Header) -> Result<(), u32> {
+fn check_fields(h: &Header) -> Result<(), Refusal> {
     if !legal_version(h.version) {
-        return Err(2);
+        return Err(Refusal::new(2));
     }
     if let Some(compression) = h.compression {
         check_code(compression, legal_compression)?;
@@ -77,49 +76,49 @@ fn check_fields(h: &Header) -> Result<(), u32> {
 
 /// A list that is there holds one entry at least, and with those counted
 /// before it no more than the maximum.
-fn check_length(own: usize, together: usize, maximum: usize) -> Result<(), u32> {
+fn check_length(own: usize, together: usize, maximum: usize) -> Result<(), Refusal> {
     if own == 0 || together > maximum {
-        return Err(5);
+        return Err(Refusal::new(5));
     }
     Ok(())
 }
 
-fn check_code(value: u32, legal: fn(u32) -> bool) -> Result<(), u32> {
+fn check_code(value: u32, legal: fn(u32) -> bool) -> Result<(), Refusal> {
     if !legal(value) {
-        return Err(3);
+        return Err(Refusal::new(3));
     }
     Ok(())
 }
 
 /// A field that takes all values of its width has no illegal code in a
 /// datagram, but a record can hold a number too large for it.
-fn check_width(value: u32, width: usize) -> Result<(), u32> {
+fn check_width(value: u32, width: usize) -> Result<(), Refusal> {
     if !fits(value, width) {
-        return Err(3);
+        return Err(Refusal::new(3));
     }
     Ok(())
 }
 
-fn check_optional_width(value: Option<u32>, width: usize) -> Result<(), u32> {
+fn check_optional_width(value: Option<u32>, width: usize) -> Result<(), Refusal> {
     match value {
         Some(value) => check_width(value, width),
         None => Ok(()),
     }
 }
 
-fn check_text(text: &[u8], maximum: usize) -> Result<(), u32> {
+fn check_text(text: &[u8], maximum: usize) -> Result<(), Refusal> {
     if text.is_empty() || text.len() > maximum {
-        return Err(4);
+        return Err(Refusal::new(4));
     }
     for character in text {
         if *character >= MARKER {
-            return Err(4);
+            return Err(Refusal::new(4));
         }
     }
     Ok(())
 }
 
-fn check_optional_text(text: &Option<Vec<u8>>, maximum: usize) -> Result<(), u32> {
+fn check_optional_text(text: &Option<Vec<u8>>, maximum: usize) -> Result<(), Refusal> {
     match text {
         Some(text) => check_text(text, maximum),
         None => Ok(()),
@@ -128,15 +127,15 @@ fn check_optional_text(text: &Option<Vec<u8>>, maximum: usize) -> Result<(), u32
 
 /// The number stands first, then the indicator that settles the form, then the
 /// name: hence 3, 6, 4.
-pub fn check_address(a: &Address) -> Result<(), u32> {
+pub fn check_address(a: &Address) -> Result<(), Refusal> {
     check_optional_width(a.urn, 24)?;
     if a.urn.is_some() == a.name.is_some() {
-        return Err(6);
+        return Err(Refusal::new(6));
     }
     check_optional_text(&a.name, MAX_UNIT_NAME)
 }
 
-fn check_dtg(d: &Dtg) -> Result<(), u32> {
+fn check_dtg(d: &Dtg) -> Result<(), Refusal> {
     check_code(d.year, legal_year)?;
     check_code(d.month, legal_month)?;
     check_code(d.day, legal_day)?;
@@ -145,21 +144,21 @@ fn check_dtg(d: &Dtg) -> Result<(), u32> {
     check_code(d.second, legal_second)
 }
 
-pub fn check_stamp(s: &Stamp) -> Result<(), u32> {
+pub fn check_stamp(s: &Stamp) -> Result<(), Refusal> {
     check_dtg(&s.dtg)?;
     check_optional_width(s.extension, 12)
 }
 
 /// Where the layout has no room for a standard version, one that is there would
 /// be lost in writing. So it is refused, whatever its number.
-fn check_standard_version(value: Option<u32>, version: u32) -> Result<(), u32> {
+fn check_standard_version(value: Option<u32>, version: u32) -> Result<(), Refusal> {
     if value.is_some() && !has_standard_version(version) {
-        return Err(3);
+        return Err(Refusal::new(3));
     }
     check_optional_width(value, 4)
 }
 
-fn check_block(b: &Block, version: u32) -> Result<(), u32> {
+fn check_block(b: &Block, version: u32) -> Result<(), Refusal> {
     check_code(b.umf, legal_umf)?;
     check_standard_version(b.standard_version, version)?;
     if let Some(identity) = &b.identity {
@@ -190,7 +189,7 @@ fn check_block(b: &Block, version: u32) -> Result<(), u32> {
     Ok(())
 }
 
-fn check_response(r: &Response) -> Result<(), u32> {
+fn check_response(r: &Response) -> Result<(), Refusal> {
     check_stamp(&r.stamp)?;
     check_code(r.code, legal_response_code)?;
     check_optional_width(r.cantco, 3)?;
@@ -198,7 +197,7 @@ fn check_response(r: &Response) -> Result<(), u32> {
     check_optional_text(&r.amplification, MAX_AMPLIFICATION)
 }
 
-fn check_references(list: &[Reference]) -> Result<(), u32> {
+fn check_references(list: &[Reference]) -> Result<(), Refusal> {
     check_length(list.len(), list.len(), MAX_REFERENCES)?;
     for reference in list {
         check_address(&reference.address)?;

@@ -1,13 +1,13 @@
 -- `arguments::by_check` meets its contract. Assumes nothing.
 use borrow.Author.Needs.{needs}
 use mathlib.Core.Path.{refl, _∙_}
-use Rattle.arguments.specs.Told.{pendingNo, answerNo, answerPlace}
+use Rattle.arguments.specs.Told.{pendingNo, answerSays, answerPlace}
 use Rattle.arguments.proofs.Told.{check-fine, check-fault}
 use Rattle.arguments.proofs.by_check.Statement.{statement}
 use Rattle.arguments.proofs.by_check.Tie as tie
 
 returns : tie.Need-returns
-unfolding answerNo answerPlace
+unfolding answerSays answerPlace
 returns c = (check-fine _ (c .before .match .keys1), refl)
 
 returns-2 : tie.Need-returns-2

@@ -14,7 +14,7 @@ use Rattle.table_octets.specs.Image.{keyImage}
 use Rattle.table_octets.proofs.Back.{key-long, key-back}
 use Rattle.table_octets.proofs.Images.{key-of-image}
 use Rattle.arguments.specs.Arguments.{postingKey, receiptKey}
-use Rattle.arguments.specs.Told.{answerNo}
+use Rattle.arguments.specs.Told.{answerSays}
 use Rattle.transitions.specs.Transition.{Transition}
 use Rattle.pending.proofs.Named.{post-asks, post-named}
 use Rattle.pending.proofs.post.Statement.{statement}
@@ -39,7 +39,7 @@ post-row-requires c κs = (
 
 returns : tie.Need-returns
 returns c = (
-  subst (λ (x : Call). Transition x (c .before .before .before .before .before .before .before .before .before .before .before .before .before .args .t .now) (answerNo (c .post-row .result)) (c .post-row .last .0))
+  subst (λ (x : Call). Transition x (c .before .before .before .before .before .before .before .before .before .before .before .before .before .args .t .now) (answerSays (c .post-row .result)) (c .post-row .last .0))
       (post-named (headerIn (c .before .before .before .before .before .before .before .before .before .before .before .before .before .args .h .now)) (c .before .before .before .before .before .before .before .before .before .before .before .before .before .args .number) (c .before .before .before .before .before .before .before .before .before .before .before .before .before .args .count .0) (blockIn (c .before .before .before .before .before .before .before .before .before .before .before .block-at .result .now)) (c .before .before .before .before .before .before .before .before .before .before .before .block-at .ensures .1) (keyIn (c .before .before .before .before .before .before .before .put-posting-key .last .0)) (key-is (c .before .before .before .before .before .before .before)) (c .before .before .before .before .before .load-asked .result) (c .before .before .before .before .before .load-asked .ensures) (addressesIn (c .before .before .before .recipients .result .now)) (c .before .before .before .recipients .ensures .1) _ (c .before .before .before .before .before .before .before .before .before .before .check-posting .ensures .0)) (c .post-row .ensures .0),
   c .post-row .ensures .1,
 )

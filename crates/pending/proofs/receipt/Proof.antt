@@ -14,7 +14,7 @@ use Rattle.table_octets.specs.Image.{keyImage}
 use Rattle.table_octets.proofs.Back.{key-long, key-back}
 use Rattle.table_octets.proofs.Images.{key-of-image}
 use Rattle.arguments.specs.Arguments.{postingKey, receiptKey}
-use Rattle.arguments.specs.Told.{answerNo}
+use Rattle.arguments.specs.Told.{answerSays}
 use Rattle.transitions.specs.Transition.{Transition}
 use Rattle.pending.proofs.Named.{receipt-asks, receipt-named}
 use Rattle.pending.proofs.receipt.Statement.{statement}
@@ -35,7 +35,7 @@ settle-row-requires c κs = (
 
 returns : tie.Need-returns
 returns c = (
-  subst (λ (x : Call). Transition x (c .before .before .before .before .before .before .before .before .before .before .before .before .before .args .t .now) (answerNo (c .settle-row .result)) (c .settle-row .last .0))
+  subst (λ (x : Call). Transition x (c .before .before .before .before .before .before .before .before .before .before .before .before .before .args .t .now) (answerSays (c .settle-row .result)) (c .settle-row .last .0))
       (receipt-named (headerIn (c .before .before .before .before .before .before .before .before .before .before .before .before .before .args .h .now)) (c .before .before .before .before .before .before .before .before .before .before .before .before .before .args .number) (c .before .before .before .before .before .before .before .before .before .before .before .before .before .args .count .0) (blockIn (c .before .before .before .before .before .before .before .before .before .before .before .block-at .result .now)) (c .before .before .before .before .before .before .before .before .before .before .before .block-at .ensures .1) (keyIn (c .before .before .before .before .before .before .before .put-receipt-key .last .0)) (key-is (c .before .before .before .before .before .before .before)) (addressIn (c .before .before .before .before .originator .result .now)) (c .before .before .before .before .originator .ensures .1) (c .before .before .before .compliance-code .result) (c .before .before .before .compliance-code .ensures) _ (c .before .before .before .before .before .before .before .before .before .before .check-receipt .ensures .0)) (c .settle-row .ensures .0),
   c .settle-row .ensures .1,
 )

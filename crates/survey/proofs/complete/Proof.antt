@@ -7,7 +7,7 @@ use Rattle.survey.proofs.complete.Tie as tie
 
 returns : tie.Need-returns
 unfolding checkNo
-returns c = (refl, refl, c .before .all-right .ensures, refl)
+returns c = (refl, c .before .conclude .ensures, refl)
 
 pub complete-spec : {M : Type 1} → statement M
 complete-spec = tie.close (tie.spec (λ c κs. search needs) returns)

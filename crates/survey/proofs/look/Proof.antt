@@ -16,9 +16,7 @@ end-block-requires c κs = (omega (arith, c .before .before .before .pre .0, c .
 
 returns : tie.Need-returns
 returns c = (
-  c .before .before .see .ensures .0,
-  c .before .before .see .ensures .1,
-  c .before .before .see .ensures .2,
+  c .before .before .see .ensures,
   c .end-block .ensures ∙ ap (λ (k : ℕ). k + block (c .before .before .before .before .args .version) .size (blockIn (c .before .before .before .before .args .b .now))) (c .before .end-flag .ensures),
 )
 

@@ -3,10 +3,8 @@ use borrow.Author.Needs.{needs}
 use Prim.Native.Nat.{ℕ, _+_}
 use mathlib.Core.Path.{_≡_, ap, sym, _∙_}
 use Rattle.codec.specs.Codec.{first}
-use Rattle.header.specs.Rules.{rulesKept, rules, settingOf, usedBlocks}
 use Rattle.header.specs.Table.{front, blocks}
 use Rattle.record_octets.specs.Record.{headerIn}
-use Rattle.rules.proofs.Over.{all-swap}
 use Rattle.writer.proofs.Parts.{check-by, size-by, blocks-legal}
 use Rattle.survey.proofs.Surveys.{fine-check, faulty, first-faulty}
 use Rattle.writer.proofs.survey_record.Statement.{statement}
@@ -24,7 +22,7 @@ survey-blocks-requires : tie.Need-survey-blocks-requires
 survey-blocks-requires c κs = (c .before .blocks-place .ensures .1, search needs)
 
 returns-2 : tie.Need-returns-2
-unfolding rulesKept first headerIn
+unfolding first headerIn
 returns-2 c =
     let h = headerIn (c .before .before .before .before .before .before .before .before .before .before .before .args .h .now) in
     let z : front .check (h .front) ≡ 0 = fine-check _ _ (c .before .before .before .before .before .before .before .before .check-front .ensures) (c .before .before .before .before .before .before .before .match .keys1) in
@@ -33,7 +31,7 @@ returns-2 c =
       e .0 ∙ check-by (h .blocks) v ∙ sym (ap (λ (k : ℕ). first k (blocks (h .front .version) .check (h .blocks))) z),
       λ fine.
           let r = e .1 (check-by (h .blocks) v ∙ blocks-legal h fine) in
-          (r .0 ∙ sym (all-swap rules (settingOf h) (usedBlocks (h .blocks))), r .1, r .2 ∙ ap (λ (k : ℕ). c .before .before .blocks-place .result .0 + k) (size-by (h .blocks) v) ∙ c .before .before .blocks-place .ensures .0),
+          (r .0, r .1 ∙ ap (λ (k : ℕ). c .before .before .blocks-place .result .0 + k) (size-by (h .blocks) v) ∙ c .before .before .blocks-place .ensures .0),
     )
 
 pub survey-record-spec : {M : Type 1} → statement M

@@ -1,5 +1,6 @@
 //! Fields off a datagram, with what a reading refuses of them.
 
+use super::refusals::at;
 use super::way::Way;
 use pruvelaccio::{Date, Dtg, OptionalNumber, OptionalText, Refusal, Stamp, Text, Time};
 
@@ -13,10 +14,6 @@ pub struct BitsIn<'a, W> {
 /// Width, least and largest value of the fields of a DTG.
 const DTG_FIELDS: [(usize, u32, u32); 6] =
     [(7, 0, 99), (4, 1, 12), (5, 1, 31), (5, 0, 23), (6, 0, 59), (6, 0, 59)];
-
-fn refusal(number: u32, place: usize) -> Refusal {
-    Refusal { number, place }
-}
 
 impl<'a, W: Way> BitsIn<'a, W> {
     pub fn new(way: W, octets: &'a [u8]) -> BitsIn<'a, W> {
@@ -35,7 +32,7 @@ impl<'a, W: Way> BitsIn<'a, W> {
     #[inline]
     pub fn number(&mut self, width: usize) -> Result<u32, Refusal> {
         if self.left() < width {
-            return Err(refusal(1, self.place));
+            return Err(at(1, self.place));
         }
         let value = self.way.take(self.octets, self.place, width);
         self.place += width;
@@ -59,7 +56,7 @@ impl<'a, W: Way> BitsIn<'a, W> {
         let start = self.place;
         let value = self.number(width)?;
         if value < least || value > most {
-            return Err(refusal(fault, start));
+            return Err(at(fault, start));
         }
         Ok(value)
     }
@@ -95,7 +92,7 @@ impl<'a, W: Way> BitsIn<'a, W> {
         }
         let bits = self.number(8 - used)?;
         if bits != 0 {
-            return Err(refusal(9, start + bits.trailing_zeros() as usize));
+            return Err(at(9, start + bits.trailing_zeros() as usize));
         }
         Ok(())
     }
@@ -145,10 +142,10 @@ impl<'a, W: Way> BitsIn<'a, W> {
         let whole = (self.left() / 7).min(most);
         let count = self.way.take_text(self.octets, start, &mut into.chars[..whole]);
         if count == whole && whole < most {
-            return Err(refusal(1, start + 7 * whole));
+            return Err(at(1, start + 7 * whole));
         }
         if count == 0 {
-            return Err(refusal(4, start));
+            return Err(at(4, start));
         }
         into.len = count as u32;
         self.place += 7 * (count + usize::from(count < most));

@@ -2,18 +2,20 @@
 //! the host stores it. What this costs beside the calls in place is copying alone. The exported calls were so once; now
 //! they are lent both.
 
+use super::refusals::only;
 use pruvelaccio::{Header, Key, Refusal, Table};
 
 #[repr(C)]
 struct TableAnswer {
     number: u32,
+    block: u32,
     place: usize,
     table: Table,
 }
 
 fn answer(table: Table, done: Result<(), Refusal>) -> TableAnswer {
-    let Refusal { number, place } = done.err().unwrap_or(Refusal { number: 0, place: 0 });
-    TableAnswer { number, place, table }
+    let Refusal { number, place, block } = done.err().unwrap_or(only(0));
+    TableAnswer { number, block, place, table }
 }
 
 #[inline(never)]
@@ -36,8 +38,9 @@ extern "C" fn release_value(mut t: Table, key: Key) -> TableAnswer {
 
 /// As the wrapper of the exported calls did it with the table.
 fn take(t: &mut Table, answer: TableAnswer) -> Result<(), Refusal> {
-    if answer.number != 0 {
-        return Err(Refusal { number: answer.number, place: answer.place });
+    let TableAnswer { number, block, place, .. } = answer;
+    if number != 0 {
+        return Err(Refusal { number, place, block });
     }
     *t = answer.table;
     Ok(())

@@ -1,7 +1,8 @@
 //! The writer's checks in field order. Each says the bits that its part will take, so that the header's length comes
-//! out of the same pass; or the number of the refusal.
+//! out of the same pass; or the number of the refusal, which tells no block.
 
 use super::limits::*;
+use super::refusals::only;
 use super::rules;
 use pruvelaccio::*;
 
@@ -10,23 +11,18 @@ type Bits = Result<usize, u32>;
 /// Whether a record is valid with so many octets of user data: the octets of its header.
 #[inline(never)]
 pub fn check(h: &Header, count: usize) -> Result<usize, Refusal> {
-    octets(h, count).map_err(|number| Refusal { number, place: 0 })
-}
-
-fn octets(h: &Header, count: usize) -> Bits {
-    let front = front(&h.front)? + 1 + 16 * usize::from(h.sized);
-    let bits = front + blocks(h.front.version, &h.blocks)?;
-    if !rules::rules_kept(h) {
-        return Err(8);
-    }
-    if !rules::sizes_right(&h.blocks, count) {
-        return Err(10);
-    }
-    let octets = bits.div_ceil(8);
+    let octets = fields(h).map_err(only)?.div_ceil(8);
+    rules::rules(h)?;
+    rules::sizes(&h.blocks, count)?;
     if count > DATAGRAM || octets > DATAGRAM - count {
-        return Err(12);
+        return Err(only(12));
     }
     Ok(octets)
+}
+
+fn fields(h: &Header) -> Bits {
+    let front = front(&h.front)? + 1 + 16 * usize::from(h.sized);
+    Ok(front + blocks(h.front.version, &h.blocks)?)
 }
 
 #[inline]

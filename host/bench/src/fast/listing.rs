@@ -1,6 +1,7 @@
 //! The listing, a row at a time.
 
 use super::order::characters;
+use super::refusals::only;
 use super::well::well_formed;
 use pruvelaccio::{Address, Key, Recipient, Refusal, Requests, Row, Stamp, Table};
 
@@ -18,7 +19,7 @@ struct Line<'a> {
 #[inline(never)]
 pub fn list_row(t: &Table, number: u32, out: &mut [u8]) -> Result<usize, Refusal> {
     if !well_formed(t) {
-        return Err(Refusal { number: 30, place: 0 });
+        return Err(only(30));
     }
     if out.len() >= LONGEST {
         return Ok(put_listed(t, number, out));
@@ -26,7 +27,7 @@ pub fn list_row(t: &Table, number: u32, out: &mut [u8]) -> Result<usize, Refusal
     let mut aside = [0; LONGEST];
     let octets = put_listed(t, number, &mut aside);
     if octets > out.len() {
-        return Err(Refusal { number: 11, place: 0 });
+        return Err(only(11));
     }
     out[..octets].copy_from_slice(&aside[..octets]);
     Ok(octets)

@@ -14,6 +14,7 @@ mod limits;
 mod listing;
 mod order;
 mod read;
+mod refusals;
 mod rules;
 mod table;
 mod way;

@@ -3,6 +3,7 @@
 use super::bits_in::BitsIn;
 use super::fragments::Fragments;
 use super::limits::*;
+use super::refusals::only;
 use super::rules;
 use super::way::Way;
 use super::zero::NO_HEADER;
@@ -18,7 +19,7 @@ pub fn read(datagram: &[u8], into: &mut Header) -> Result<usize, Refusal> {
 /// The same, with bits taken either way.
 pub fn read_by(way: impl Way, datagram: &[u8], into: &mut Header) -> Result<usize, Refusal> {
     if datagram.len() > DATAGRAM {
-        return Err(Refusal { number: 12, place: 0 });
+        return Err(only(12));
     }
     *into = NO_HEADER;
     let mut bits = BitsIn::new(way, datagram);
@@ -29,13 +30,11 @@ pub fn read_by(way: impl Way, datagram: &[u8], into: &mut Header) -> Result<usiz
     blocks(&mut bits, into.front.version, &mut into.blocks)?;
     bits.fill()?;
     let length = bits.place() / 8;
-    if !rules::rules_kept(into) {
-        return Err(Refusal { number: 8, place: 0 });
+    rules::rules(into)?;
+    if size.present && size.value as usize != length {
+        return Err(only(51));
     }
-    let told = !size.present || size.value as usize == length;
-    if !told || !rules::sizes_right(&into.blocks, datagram.len() - length) {
-        return Err(Refusal { number: 10, place: 0 });
-    }
+    rules::sizes(&into.blocks, datagram.len() - length)?;
     Ok(length)
 }
 

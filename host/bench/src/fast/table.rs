@@ -3,24 +3,21 @@
 use super::check;
 use super::limits::{ADDRESSEES, ROWS};
 use super::order::{by_address, find_row};
+use super::refusals::only;
 use super::rules::any_asked;
 use super::well::{answers_acknowledge, answers_machine, answers_reply, well_formed};
 use super::zero::NO_ROW;
 use pruvelaccio::*;
 
-fn refusal(number: u32) -> Refusal {
-    Refusal { number, place: 0 }
-}
-
 /// What posting and receipt judge first: the table (30), the record, the block's number (29).
 fn block_of<'a>(t: &Table, h: &'a Header, number: u32, count: usize) -> Result<&'a Block, Refusal> {
     if !well_formed(t) {
-        return Err(refusal(30));
+        return Err(only(30));
     }
     check::check(h, count)?;
     let used = &h.blocks.list[..h.blocks.count as usize];
-    let index = (number as usize).checked_sub(1).ok_or(refusal(29))?;
-    used.get(index).ok_or(refusal(29))
+    let index = (number as usize).checked_sub(1).ok_or(only(29))?;
+    used.get(index).ok_or(only(29))
 }
 
 /// Posts a block of a record, counted from 1.
@@ -28,19 +25,19 @@ fn block_of<'a>(t: &Table, h: &'a Header, number: u32, count: usize) -> Result<&
 pub fn post(t: &mut Table, h: &Header, number: u32, count: usize) -> Result<(), Refusal> {
     let block = block_of(t, h, number, count)?;
     if !any_asked(&block.times.requests) {
-        return Err(refusal(20));
+        return Err(only(20));
     }
     if !h.front.recipients.present {
-        return Err(refusal(21));
+        return Err(only(21));
     }
     let rows = t.count as usize;
     // What asks has an originator and a DTG, by rules (a) and (i).
     let (from, stamp) = (&h.front.originator.address, &block.times.origin.stamp);
     let Err(at) = find_row(&t.rows[..rows], from, stamp) else {
-        return Err(refusal(22));
+        return Err(only(22));
     };
     if rows == ROWS {
-        return Err(refusal(23));
+        return Err(only(23));
     }
     t.rows.copy_within(at..rows, at + 1);
     t.count += 1;
@@ -74,25 +71,25 @@ fn fill_recipients(row: &mut Row, to: &Addresses) {
 pub fn receipt(t: &mut Table, h: &Header, number: u32, count: usize) -> Result<(), Refusal> {
     let block = block_of(t, h, number, count)?;
     if !block.response.present {
-        return Err(refusal(24));
+        return Err(only(24));
     }
     let to = &h.front.recipients;
     if !h.front.originator.present || !to.present || to.addresses.count != 1 {
-        return Err(refusal(25));
+        return Err(only(25));
     }
     let response = &block.response.response;
     let rows = &mut t.rows[..t.count as usize];
     let Ok(at) = find_row(rows, &to.addresses.list[0], &response.stamp) else {
-        return Err(refusal(26));
+        return Err(only(26));
     };
     let row = &mut rows[at];
     let recipients = &mut row.recipients[..row.count as usize];
     let answerer = &h.front.originator.address;
     let Ok(at) = recipients.binary_search_by(|r| by_address(&r.address, answerer)) else {
-        return Err(refusal(27));
+        return Err(only(27));
     };
     if !settle(&row.asked, response.compliance.code, &mut recipients[at]) {
-        return Err(refusal(28));
+        return Err(only(28));
     }
     Ok(())
 }
@@ -118,13 +115,13 @@ fn settle(asked: &Requests, code: u32, r: &mut Recipient) -> bool {
 #[inline(never)]
 pub fn release(t: &mut Table, key: &Key) -> Result<(), Refusal> {
     if !well_formed(t) {
-        return Err(refusal(30));
+        return Err(only(30));
     }
-    check::address(&key.address).map_err(refusal)?;
-    check::stamp(&key.stamp).map_err(refusal)?;
+    check::address(&key.address).map_err(only)?;
+    check::stamp(&key.stamp).map_err(only)?;
     let rows = t.count as usize;
     let Ok(at) = find_row(&t.rows[..rows], &key.address, &key.stamp) else {
-        return Err(refusal(26));
+        return Err(only(26));
     };
     t.rows.copy_within(at + 1..rows, at);
     t.rows[rows - 1] = NO_ROW;

@@ -4,6 +4,7 @@ use super::bits_out::BitsOut;
 use super::check::check;
 use super::fragments::Fragments;
 use super::limits::*;
+use super::refusals::only;
 use super::way::Way;
 use pruvelaccio::*;
 
@@ -17,7 +18,7 @@ pub fn write(h: &Header, count: usize, out: &mut [u8]) -> Result<usize, Refusal>
 pub fn write_by(way: impl Way, h: &Header, count: usize, out: &mut [u8]) -> Result<usize, Refusal> {
     let octets = check(h, count)?;
     if out.len() < octets {
-        return Err(Refusal { number: 11, place: 0 });
+        return Err(only(11));
     }
     let mut bits = BitsOut::new(way, &mut out[..octets]);
     front(&mut bits, &h.front);

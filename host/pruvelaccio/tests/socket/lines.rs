@@ -13,6 +13,11 @@ const MESSAGE: [u8; 17] =
 const RECEIPT: [u8; 16] =
     [0xE2, 0x01, 0, 0, 0x7D, 0x06, 0, 0, 0x01, 0, 0x08, 0xBE, 0x01, 0xB7, 0x5B, 0];
 
+/// No addresses, a header of 12 octets, a block of one octet with UMF 2 and a second one that tells no size: bit 8 says
+/// that bits 9 to 24 are the header size, bit 25 that a second block follows, bit 33 that bits 34 to 53 are the message
+/// size; the second block begins at bit 69, and its bit 77 is 0.
+const UNSIZED: [u8; 13] = [0x02, 0x19, 0, 0x0A, 0x06, 0, 0, 0, 0x80, 0, 0, 0, 0x01];
+
 const OPEN: &str = "rows 1\n207 96-07-03 16:27:55 - asked m\n  3 m=?\n";
 const SETTLED: &str = "rows 1\n207 96-07-03 16:27:55 - asked m\n  3 m=1\n";
 
@@ -32,6 +37,9 @@ fn takes_datagrams_and_lines() {
     assert_eq!(host.logged(), "no row \"2\": the table has 1");
     host.send(&[]);
     assert!(host.logged().starts_with("a datagram of 0 octets: refusal 1 at place 0"));
+    host.send(&UNSIZED);
+    let words = "refusal 46 at place 0: rule (f): block 2 has no message size";
+    assert_eq!(host.logged(), format!("a datagram of 13 octets: {words}"));
     host.send(&MESSAGE);
     assert!(host.logged().starts_with("block 1: refusal 22"));
     host.send(&RECEIPT);

@@ -26,12 +26,12 @@ fn rows_in_words() {
         s.clone(),
         requests(true, true, true),
     );
-    assert_eq!(post(&mut board, &h, 1, 1), 0);
+    assert_eq!(post(&mut board, &h, 1, 1), Ok(()));
     let from = h.originator.clone().unwrap();
-    assert_eq!(receipt(&mut board, &answer(urn(0), from.clone(), s.clone(), 6), 1, 0), 0);
-    assert_eq!(receipt(&mut board, &answer(name(b"HQ"), from, s, 3), 1, 0), 0);
+    assert_eq!(receipt(&mut board, &answer(urn(0), from.clone(), s.clone(), 6), 1, 0), Ok(()));
+    assert_eq!(receipt(&mut board, &answer(name(b"HQ"), from, s, 3), 1, 0), Ok(()));
     let mr = message(urn(1), vec![urn(2)], extended(0), requests(true, false, true));
-    assert_eq!(post(&mut board, &mr, 1, 1), 0);
+    assert_eq!(post(&mut board, &mr, 1, 1), Ok(()));
 
     assert_eq!(text(&board, 0), "rows 2\n");
     assert_eq!(
@@ -54,12 +54,12 @@ fn rows_in_words() {
 fn into_lent_output() {
     let mut board = Board::new();
     let h = message(urn(207), vec![urn(3)], stamp(), requests(false, true, false));
-    assert_eq!(post(&mut board, &h, 1, 1), 0);
+    assert_eq!(post(&mut board, &h, 1, 1), Ok(()));
     for row in 0..4 {
         let whole = listing(&board, row).unwrap();
         for length in 0..whole.len() {
             let mut out = vec![0xEE; length];
-            assert_eq!(list_row(&board, row, &mut out), Err(11));
+            assert_eq!(list_row(&board, row, &mut out), Err(only(11)));
             assert_eq!(out, vec![0xEE; length]);
         }
         let mut out = vec![0xEE; whole.len() + 2];
@@ -69,5 +69,5 @@ fn into_lent_output() {
     }
     // Nothing fits into nothing.
     assert_eq!(list_row(&board, 2, &mut []), Ok(0));
-    assert_eq!(list_row(&board, 0, &mut []), Err(11));
+    assert_eq!(list_row(&board, 0, &mut []), Err(only(11)));
 }

@@ -1,11 +1,13 @@
 //! Tests, and small helpers that they share.
 
 mod board;
+mod by_hand;
 mod listing;
 mod program;
 mod random;
 mod reading;
 mod version_1;
+mod which_rule;
 mod writing;
 
 use crate::*;
@@ -53,6 +55,20 @@ pub const B1: [u8; 16] = [
 pub const C1: [u8; 16] = [
     0xE1, 0x01, 0x00, 0x00, 0x7D, 0x06, 0x00, 0x00, 0x01, 0x00, 0x04, 0xDF, 0x80, 0xDB, 0x2D, 0x00,
 ];
+
+/// Refusals as the tests expect them, put together without the library's help:
+/// one with a number only, one at a bit, one for a block.
+pub fn only(number: u32) -> Refusal {
+    Refusal { number, place: 0, block: 0 }
+}
+
+pub fn at(number: u32, place: usize) -> Refusal {
+    Refusal { number, place, block: 0 }
+}
+
+pub fn in_block(number: u32, block: u32) -> Refusal {
+    Refusal { number, place: 0, block }
+}
 
 pub fn with_data(header: &[u8], data: &[u8]) -> Vec<u8> {
     let mut all = header.to_vec();

@@ -206,7 +206,7 @@ fn a_cut_header_runs_out() {
         let mut d = vec![0; octets];
         write(&h, count, &mut d).unwrap();
         for cut in (0..octets).step_by(7) {
-            assert_eq!(read(&d[..cut]).unwrap_err().0, 1);
+            assert_eq!(read(&d[..cut]).unwrap_err().number, 1);
         }
     }
 }
@@ -215,7 +215,7 @@ fn a_cut_header_runs_out() {
 fn what_is_read_is_written_back() {
     let mut dice = Dice(3);
     let mut accepted = [0u32; 3];
-    let mut seen = [0u32; 13];
+    let mut seen = [0u32; 55];
     for turn in 0..3000 {
         let (h, count) = dice.record(version_of(turn));
         let octets = check(&h, count).unwrap();
@@ -234,18 +234,33 @@ fn what_is_read_is_written_back() {
                 assert_eq!(write(&changed, rest, &mut out), Ok(length));
                 assert_eq!(out, &d[..length]);
             }
-            Err((number, place)) => {
-                seen[number as usize] += 1;
-                assert!(place <= d.len() * 8);
-                if number == 8 || number == 10 || number == 12 {
-                    assert_eq!(place, 0);
-                }
+            Err(refusal) => {
+                seen[refusal.number as usize] += 1;
+                assert_points_right(refusal, d.len() * 8);
             }
         }
     }
     assert!(accepted[1] > 100 && accepted[2] > 100, "{accepted:?}");
-    for number in [1, 2, 3, 4, 5, 6, 7, 8, 9, 10] {
+    for number in [1, 2, 3, 4, 5, 6, 7, 9, 46, 51, 52] {
         assert!(seen[number] > 0, "refusal {number} never came up: {seen:?}");
+    }
+}
+
+/// Each number points at a bit, at a block, or at nothing, and the reader gives
+/// no others.
+fn assert_points_right(refusal: Refusal, end: usize) {
+    match refusal.number {
+        1..=7 | 9 => {
+            assert!(refusal.place <= end);
+            assert_eq!(refusal.block, 0);
+        }
+        46 => assert!(refusal.place == 0 && refusal.block <= 16),
+        41..=49 | 53 | 54 => {
+            assert_eq!(refusal.place, 0);
+            assert!(refusal.block >= 1 && refusal.block <= 16);
+        }
+        51 | 52 => assert_eq!(refusal, only(refusal.number)),
+        number => panic!("refusal {number}"),
     }
 }
 
@@ -266,7 +281,7 @@ fn a_record_in_the_other_version() {
         h.version = 1;
         match check(&h, count) {
             Ok(_) => assert!(!extra),
-            Err(refusal) => assert!(extra && refusal == 3),
+            Err(refusal) => assert!(extra && refusal == only(3)),
         }
         seen[extra as usize] += 1;
         // And all of them once that is gone.
@@ -300,7 +315,7 @@ fn octets_under_the_other_version() {
                 assert_eq!(write(&changed, (d.len() - length) as u64, &mut out), Ok(length));
                 assert_eq!(out, &d[..length]);
             }
-            Err((number, _)) => assert_ne!(number, 2),
+            Err(refusal) => assert_ne!(refusal.number, 2),
         }
     }
     assert!(accepted[1] > 0 && accepted[2] > 0, "{accepted:?}");
@@ -353,15 +368,182 @@ fn calls_keep_the_board_in_order_and_refusals_leave_it_alone() {
                 release(&mut board, &k)
             }
         };
-        seen[got as usize] += 1;
         assert!(well_formed(&board));
-        if got != 0 {
-            assert_eq!(board, before);
-        } else {
-            assert_ne!(board, before);
+        match got {
+            Ok(()) => {
+                seen[0] += 1;
+                assert_ne!(board, before);
+            }
+            Err(refusal) => {
+                seen[refusal.number as usize] += 1;
+                assert_eq!(refusal, only(refusal.number));
+                assert_eq!(board, before);
+            }
         }
     }
     for number in [0, 20, 21, 22, 23, 25, 26, 27, 28, 29] {
         assert!(seen[number] > 0, "refusal {number} never came up: {seen:?}");
+    }
+}
+
+/// All faults between fields as number and block, gathered block by block. The
+/// numbers rise in the order in which the faults are tried, and one number is
+/// tried from block 0 up: so the least pair is the one that must be told.
+fn faults(h: &Header, count: u64) -> Vec<(u32, u32)> {
+    let mut all = Vec::new();
+    let several = h.blocks.len() > 1;
+    let mut sum = 0;
+    for (i, b) in h.blocks.iter().enumerate() {
+        let block = i as u32 + 1;
+        let size = b.message_size.map_or(count, u64::from);
+        sum += size;
+        if several && b.message_size.is_none() {
+            all.push((46, block));
+        }
+        if b.identity.is_some() && (b.umf == 1 || b.umf == 4) {
+            all.push((if b.umf == 1 { 43 } else { 44 }, block));
+        }
+        if let Some(q) = &b.requests {
+            if h.originator.is_none() {
+                all.push((41, block));
+            }
+            if *q != requests(false, false, false) && b.stamp.is_none() {
+                all.push((49, block));
+            }
+        }
+        match &b.response {
+            None if size == 0 => all.push((53, block)),
+            None => {}
+            Some(r) => answer_faults(h, b, r, size, block, &mut all),
+        }
+    }
+    if several && !h.sized {
+        all.push((46, 0));
+    }
+    if sum != count {
+        all.push((52, 0));
+    }
+    all
+}
+
+/// Those of a block with an answer.
+fn answer_faults(
+    h: &Header,
+    b: &Block,
+    r: &Response,
+    size: u64,
+    block: u32,
+    all: &mut Vec<(u32, u32)>,
+) {
+    if b.perishable.is_some() || b.requests.is_some() {
+        all.push((42, block));
+    }
+    if h.compression.is_some() {
+        all.push((45, block));
+    }
+    if r.cantco.is_some() && r.code != 6 {
+        all.push((47, block));
+    }
+    if r.cantpro.is_some() && r.code != 2 {
+        all.push((48, block));
+    }
+    if b.umf == 4 {
+        all.push((53, block));
+    } else if size != 0 {
+        all.push((54, block));
+    }
+}
+
+impl Dice {
+    /// Changes one thing that the rules or sizes look at; each field by itself
+    /// stays in order.
+    fn spoil(&mut self, h: &mut Header) {
+        let which = self.below(h.blocks.len() as u32) as usize;
+        match self.below(14) {
+            0 => h.originator = None,
+            1 => h.compression = Some(1),
+            2 => h.sized = false,
+            n => self.spoil_block(&mut h.blocks[which], n),
+        }
+    }
+
+    fn spoil_block(&mut self, b: &mut Block, what: u32) {
+        match what {
+            3 => b.umf = 1,
+            4 => b.umf = 4,
+            5 => b.identity = Some(Identity { fad: 1, number: 1, subtype: None }),
+            6 => b.message_size = None,
+            7 => b.message_size = Some(self.below(3)),
+            8 => b.stamp = None,
+            9 => b.perishable = Some(dtg()),
+            10 => b.requests = Some(requests(self.coin(), self.coin(), self.coin())),
+            11 => b.response = Some(self.response()),
+            // A reason, in an answer that is made for it if there is none.
+            12 => b.response.get_or_insert_with(|| self.response()).cantco = Some(7),
+            _ => b.response.get_or_insert_with(|| self.response()).cantpro = Some(9),
+        }
+    }
+
+    /// A record of this version that may have faults of that kind, and the
+    /// octets of its user data.
+    fn spoilt_record(&mut self, version: u32) -> (Header, u64) {
+        let (mut h, count) = self.record(version);
+        for _ in 0..self.below(4) {
+            self.spoil(&mut h);
+        }
+        // Often the data follows the sizes as they are told now.
+        if self.below(4) != 0 && h.blocks.iter().all(|b| b.message_size.is_some()) {
+            let sum = h.blocks.iter().map(|b| u64::from(b.message_size.unwrap())).sum();
+            return (h, sum);
+        }
+        (h, count)
+    }
+}
+
+/// What must be told of these faults.
+fn first_of(all: &[(u32, u32)]) -> Result<(), Refusal> {
+    match all.iter().min() {
+        Some((number, block)) => Err(in_block(*number, *block)),
+        None => Ok(()),
+    }
+}
+
+#[test]
+fn the_first_fault_is_told_with_its_block() {
+    let mut dice = Dice(7);
+    let mut seen = [0u32; 55];
+    let mut later = [0u32; 55];
+    for turn in 0..6000 {
+        let (h, count) = dice.spoilt_record(version_of(turn));
+        let mut all = faults(&h, count);
+        assert_eq!(check(&h, count).map(|_| ()), first_of(&all));
+        let mut board = Board::new();
+        if !all.is_empty() {
+            assert_eq!(post(&mut board, &h, 1, count), first_of(&all));
+            assert_eq!(receipt(&mut board, &h, 1, count), first_of(&all));
+            assert_eq!(board, Board::new());
+        }
+
+        // And while reading, sometimes with a wrong header size.
+        let mut header = by_hand::header_octets(&h);
+        if h.sized && dice.below(4) == 0 {
+            header = by_hand::header_telling(&h, header.len() as u32 + 1);
+            all.push((51, 0));
+        }
+        let got = read(&with_data(&header, &vec![0x5A; count as usize]));
+        if all.is_empty() {
+            assert_eq!(got, Ok((h, header.len())));
+            seen[0] += 1;
+        } else {
+            let refusal = got.unwrap_err();
+            assert_eq!(Err(refusal), first_of(&all));
+            seen[refusal.number as usize] += 1;
+            later[refusal.number as usize] += (refusal.block > 1) as u32;
+        }
+    }
+    for number in [0, 41, 42, 43, 44, 45, 46, 47, 48, 49, 51, 52, 53, 54] {
+        assert!(seen[number] > 20, "refusal {number} is rare: {seen:?}");
+        let has_block = number != 0 && number != 51 && number != 52;
+        assert!(!has_block || later[number] > 0, "only in block 1: {number}");
     }
 }

@@ -13,21 +13,21 @@ fn worked_a() {
     assert_eq!(read(&datagram), Ok((plain_header(), 5)));
     assert_eq!(user_data(&datagram), &[0x5C]);
 
-    assert_eq!(read(&A), Err((10, 0)));
+    assert_eq!(read(&A), Err(in_block(53, 1)));
     assert_eq!(user_data(&A), &[] as &[u8]);
 
     let mut filled = datagram.clone();
     filled[4] = 0x02;
-    assert_eq!(read(&filled), Err((9, 33)));
+    assert_eq!(read(&filled), Err(at(9, 33)));
     let mut secured = datagram.clone();
     secured[4] = 0x01;
-    assert_eq!(read(&secured), Err((7, 32)));
+    assert_eq!(read(&secured), Err(at(7, 32)));
 
-    assert_eq!(read(&[]), Err((1, 0)));
+    assert_eq!(read(&[]), Err(at(1, 0)));
     let mut other = datagram.clone();
     other[0] = 0x03;
-    assert_eq!(read(&other), Err((2, 0)));
-    assert_eq!(read(&[0x03]), Err((2, 0)));
+    assert_eq!(read(&other), Err(at(2, 0)));
+    assert_eq!(read(&[0x03]), Err(at(2, 0)));
     assert_eq!(user_data(&other), &[] as &[u8]);
 }
 
@@ -37,14 +37,14 @@ fn worked_b() {
     let h = message(urn(207), vec![urn(3)], stamp(), requests(true, false, false));
     assert_eq!(read(&datagram), Ok((h, 16)));
     assert_eq!(user_data(&datagram), &[0x01]);
-    assert_eq!(read(&B), Err((10, 0)));
+    assert_eq!(read(&B), Err(in_block(53, 1)));
 }
 
 #[test]
 fn worked_c() {
     assert_eq!(read(&C), Ok((answer(urn(3), urn(207), stamp(), 1), 16)));
     assert_eq!(user_data(&C), &[] as &[u8]);
-    assert_eq!(read(&with_data(&C, &[0])), Err((10, 0)));
+    assert_eq!(read(&with_data(&C, &[0])), Err(in_block(54, 1)));
 }
 
 #[test]
@@ -52,10 +52,10 @@ fn each_fill_bit() {
     for place in 33..40 {
         let mut d = with_data(&A, &[0]);
         d[4] = 1 << (place - 32);
-        assert_eq!(read(&d), Err((9, place)));
+        assert_eq!(read(&d), Err(at(9, place)));
         // The first of several counts.
         d[4] |= 0x80;
-        assert_eq!(read(&d), Err((9, place)));
+        assert_eq!(read(&d), Err(at(9, place)));
     }
 }
 
@@ -103,7 +103,7 @@ fn names_of_63_and_64_characters() {
     m.n(2, 4).n(0, 1).n(1, 1).n(0, 1).n(1, 1).chars(&[65; 64]);
     let after = m.place();
     m.n(127, 7).n(0, 1).n(0, 1).n(0, 1).last_block();
-    assert_eq!(read(&m.datagram()), Err((6, after + 30)));
+    assert_eq!(read(&m.datagram()), Err(at(6, after + 30)));
 }
 
 /// A text, closed by hand where it is shorter than its maximum.
@@ -156,17 +156,17 @@ fn empty_and_cut_texts() {
     assert_eq!(first, 8);
     // Empty: at the text, which begins with its marker.
     m.n(127, 7).n(0, 40);
-    assert_eq!(read(&m.datagram()), Err((4, 8)));
+    assert_eq!(read(&m.datagram()), Err(at(4, 8)));
 
     // Cut: at the character that doesn't fit. Two octets hold 8 bits of text.
     let mut m = Hand::new();
     m.n(2, 4).n(0, 1).n(1, 1).n(0, 1).n(1, 1).chars(b"AB");
-    assert_eq!(read(&m.octets()[..2]), Err((1, 15)));
-    assert_eq!(read(&m.octets()[..1]), Err((1, 8)));
+    assert_eq!(read(&m.octets()[..2]), Err(at(1, 15)));
+    assert_eq!(read(&m.octets()[..1]), Err(at(1, 8)));
     // A marker that is cut off is a character that doesn't fit, too.
     let mut m = Hand::new();
     m.n(2, 4).n(0, 1).n(1, 1).n(0, 1).n(1, 1).n(127, 7);
-    assert_eq!(read(&m.octets()[..1]), Err((1, 8)));
+    assert_eq!(read(&m.octets()[..1]), Err(at(1, 8)));
 }
 
 #[test]
@@ -174,15 +174,15 @@ fn both_or_neither_form() {
     // Neither, in G1: indicators at 6 and 7.
     let mut m = Hand::new();
     m.n(2, 4).n(0, 1).n(1, 1).n(0, 1).n(0, 1).n(0, 60);
-    assert_eq!(read(&m.datagram()), Err((6, 7)));
+    assert_eq!(read(&m.datagram()), Err(at(6, 7)));
     // Both: the second indicator stands after the number.
     let mut m = Hand::new();
     m.n(2, 4).n(0, 1).n(1, 1).n(1, 1).n(5, 24).n(1, 1);
-    assert_eq!(read(&m.octets()), Err((6, 31)));
+    assert_eq!(read(&m.octets()), Err(at(6, 31)));
     // Running out comes before the form is judged.
     let mut m = Hand::new();
     m.n(2, 4).n(0, 1).n(1, 1).n(1, 1).n(5, 24);
-    assert_eq!(read(&m.octets()[..3]), Err((1, 7)));
+    assert_eq!(read(&m.octets()[..3]), Err(at(1, 7)));
 }
 
 #[test]
@@ -195,7 +195,7 @@ fn codes_and_their_places() {
             // In version 1 the last of these bits begins the data.
             assert_eq!(got.unwrap().0.version, value);
         } else {
-            assert_eq!(got, Err((2, 0)));
+            assert_eq!(got, Err(at(2, 0)));
         }
     }
     for value in 0..4 {
@@ -205,7 +205,7 @@ fn codes_and_their_places() {
         if value < 2 {
             assert_eq!(got.unwrap().0.compression, Some(value));
         } else {
-            assert_eq!(got, Err((3, 5)));
+            assert_eq!(got, Err(at(3, 5)));
         }
     }
     for value in 0..16 {
@@ -215,7 +215,7 @@ fn codes_and_their_places() {
         if value <= 8 {
             assert_eq!(got.unwrap().0.blocks[0].umf, value);
         } else {
-            assert_eq!(got, Err((3, 10)));
+            assert_eq!(got, Err(at(3, 10)));
         }
     }
     for value in 0..8 {
@@ -228,7 +228,7 @@ fn codes_and_their_places() {
         if value >= 1 && value <= 6 {
             assert_eq!(got.unwrap().0.blocks[0].response, Some(response(stamp(), value)));
         } else {
-            assert_eq!(got, Err((3, place)));
+            assert_eq!(got, Err(at(3, place)));
         }
     }
 }
@@ -266,7 +266,7 @@ fn every_value_of_each_part_of_a_dtg() {
                 let read_back = [d.year, d.month, d.day, d.hour, d.minute, d.second];
                 assert_eq!(read_back[which], value);
             } else {
-                assert_eq!(got, Err((3, place)), "part {which} value {value}");
+                assert_eq!(got, Err(at(3, place)), "part {which} value {value}");
             }
         }
     }
@@ -305,10 +305,10 @@ fn sixteen_and_seventeen_addressees() {
                 assert_eq!(h.recipients.map_or(0, |l| l.len()), recipients);
                 assert_eq!(h.information.map_or(0, |l| l.len()), information);
             } else if recipients == 16 {
-                assert_eq!(got, Err((5, presence)));
+                assert_eq!(got, Err(at(5, presence)));
             } else {
                 // The bit in front of the sixteenth asks for the seventeenth.
-                assert_eq!(got, Err((5, places[15])));
+                assert_eq!(got, Err(at(5, places[15])));
             }
         }
     }
@@ -322,7 +322,7 @@ fn the_seventeenth_is_refused_before_the_sixteenth_is_read() {
     let mut d = m.datagram();
     let k = places[15] + 1;
     d[k / 8] &= !(1 << (k % 8));
-    assert_eq!(read(&d), Err((5, places[15])));
+    assert_eq!(read(&d), Err(at(5, places[15])));
 }
 
 fn many_blocks(count: usize) -> (Vec<u8>, Vec<usize>) {
@@ -350,7 +350,7 @@ fn sixteen_and_seventeen_blocks() {
         assert_eq!(user_data(&d), &vec![7; count][..]);
     }
     let (d, places) = many_blocks(17);
-    assert_eq!(read(&d), Err((5, places[15])));
+    assert_eq!(read(&d), Err(at(5, places[15])));
 }
 
 #[test]
@@ -369,7 +369,7 @@ fn four_and_five_references() {
             let list: Vec<Reference> = (0..count).map(|i| reference(40 + i as u32)).collect();
             assert_eq!(got.unwrap().0.blocks[0].references, Some(list));
         } else {
-            assert_eq!(got, Err((5, places[3])));
+            assert_eq!(got, Err(at(5, places[3])));
         }
     }
 }
@@ -378,21 +378,21 @@ fn four_and_five_references() {
 fn running_out_anywhere_in_a_header_is_1() {
     for whole in [&A[..], &B[..], &C[..]] {
         for cut in 0..whole.len() {
-            let (number, place) = read(&whole[..cut]).unwrap_err();
-            assert_eq!(number, 1, "{cut} octets");
-            assert!(place <= cut * 8);
+            let refusal = read(&whole[..cut]).unwrap_err();
+            assert_eq!(refusal, at(1, refusal.place), "{cut} octets");
+            assert!(refusal.place <= cut * 8);
         }
     }
     // Inside a number the place is the number's first bit: B's G1 number is
     // bits 7 to 30.
-    assert_eq!(read(&B[..1]), Err((1, 7)));
-    assert_eq!(read(&B[..2]), Err((1, 7)));
-    assert_eq!(read(&B[..3]), Err((1, 7)));
+    assert_eq!(read(&B[..1]), Err(at(1, 7)));
+    assert_eq!(read(&B[..2]), Err(at(1, 7)));
+    assert_eq!(read(&B[..3]), Err(at(1, 7)));
     // A's fields: bit 8 is the first that one octet lacks.
-    assert_eq!(read(&A[..1]), Err((1, 8)));
-    assert_eq!(read(&A[..2]), Err((1, 16)));
-    assert_eq!(read(&A[..3]), Err((1, 24)));
-    assert_eq!(read(&A[..4]), Err((1, 32)));
+    assert_eq!(read(&A[..1]), Err(at(1, 8)));
+    assert_eq!(read(&A[..2]), Err(at(1, 16)));
+    assert_eq!(read(&A[..3]), Err(at(1, 24)));
+    assert_eq!(read(&A[..4]), Err(at(1, 32)));
 }
 
 #[test]
@@ -403,17 +403,17 @@ fn running_out_comes_before_the_fields_other_faults() {
     assert_eq!(m.place(), 28);
     m.n(127, 7);
     let d = m.octets();
-    assert_eq!(read(&d[..4]), Err((1, 28)));
-    assert_eq!(read(&d), Err((3, 28)));
+    assert_eq!(read(&d[..4]), Err(at(1, 28)));
+    assert_eq!(read(&d), Err(at(3, 28)));
     // Version with nothing there at all.
-    assert_eq!(read(&[]), Err((1, 0)));
+    assert_eq!(read(&[]), Err(at(1, 0)));
 }
 
 /// The fields of a smallest block can be made faulty in several ways at once;
 /// the order of the checks decides.
 #[test]
-fn order_nine_eight_ten() {
-    // G7 without G1 (8), a fill bit (9), no data (10).
+fn fill_then_rules_then_sizes() {
+    // G7 without G1 (41), a fill bit (9), no data (53).
     let mut m = Hand::new();
     m.start().n(0, 1).n(0, 1).n(2, 4).n(0, 3).n(0, 1).n(0, 8).n(0, 1).n(0, 1).n(0, 1);
     m.n(1, 1).n(0, 3).n(0, 1).n(0, 1).n(0, 1);
@@ -421,16 +421,16 @@ fn order_nine_eight_ten() {
     let clean = m.octets();
     let mut filled = clean.clone();
     filled[4] |= 0x80;
-    assert_eq!(read(&filled), Err((9, 39)));
-    assert_eq!(read(&clean), Err((8, 0)));
-    assert_eq!(read(&A), Err((10, 0)));
+    assert_eq!(read(&filled), Err(at(9, 39)));
+    assert_eq!(read(&clean), Err(in_block(41, 1)));
+    assert_eq!(read(&A), Err(in_block(53, 1)));
 }
 
 #[test]
 fn every_rule_while_reading() {
     // Records that break one rule each, put into octets by hand: the writer
-    // refuses to.
-    let mut broken: Vec<(&str, Hand, bool)> = Vec::new();
+    // refuses to. Beside the octets, whether data follows and what is told.
+    let mut broken: Vec<(&str, Hand, bool, Refusal)> = Vec::new();
 
     let upto_g4 = |umf: u32| {
         let mut m = Hand::new();
@@ -440,45 +440,47 @@ fn every_rule_while_reading() {
 
     let mut m = upto_g4(2);
     m.n(0, 2).n(0, 1).n(0, 8).n(0, 3).n(1, 1).n(0, 3).n(0, 3);
-    broken.push(("a", m, true));
+    broken.push(("a", m, true, in_block(41, 1)));
 
     let mut m = upto_g4(2);
     m.n(0, 2).n(0, 1).n(0, 8).n(0, 2).n(1, 1).dtg().n(0, 1);
     m.n(1, 1).dtg().n(0, 1).n(1, 3).n(0, 3).n(0, 2);
-    broken.push(("b with G6", m, false));
+    broken.push(("b with G6", m, false, in_block(42, 1)));
 
     let mut m = Hand::new();
     m.n(2, 4).n(0, 1).n(1, 1).urn(3).n(0, 3).n(0, 1).n(2, 4).n(0, 1);
     m.n(0, 2).n(0, 1).n(0, 8).n(0, 3).n(1, 1).n(0, 3);
     m.n(1, 1).dtg().n(0, 1).n(1, 3).n(0, 3).n(0, 2);
-    broken.push(("b with G7", m, false));
+    broken.push(("b with G7", m, false, in_block(42, 1)));
 
-    for (rule, umf) in [("c", 1), ("d", 4)] {
+    for (rule, umf, number) in [("c", 1, 43), ("d", 4, 44)] {
         let mut m = upto_g4(umf);
         m.n(1, 1).n(1, 4).n(1, 7).n(0, 1).n(0, 1).n(0, 1).n(0, 8).n(0, 7);
-        broken.push((rule, m, true));
+        broken.push((rule, m, true, in_block(number, 1)));
     }
 
     let mut m = Hand::new();
     m.n(2, 4).n(1, 1).n(0, 2).n(0, 3).n(0, 1).n(0, 1).n(2, 4).n(0, 1);
     m.n(0, 2).n(0, 1).n(0, 8).n(0, 4).n(1, 1).dtg().n(0, 1).n(1, 3).n(0, 3).n(0, 2);
-    broken.push(("e", m, false));
+    broken.push(("e", m, false, in_block(45, 1)));
 
     // Two blocks of 24 + 20 bits without a header size.
     let mut m = Hand::new();
     m.start().n(0, 1);
     m.n(1, 1).n(2, 4).n(0, 3).n(1, 1).n(1, 20).n(0, 15);
     m.n(0, 1).n(2, 4).n(0, 3).n(1, 1).n(0, 20).n(0, 15);
-    broken.push(("f, header size", m, true));
+    broken.push(("f, header size", m, true, only(46)));
 
     // Two blocks, the last one without size: 25 + 44 + 24 bits, 12 octets.
     let mut m = Hand::new();
     m.start().n(1, 1).n(12, 16);
     m.n(1, 1).n(2, 4).n(0, 3).n(1, 1).n(1, 20).n(0, 15);
     m.last_block();
-    broken.push(("f, last message size", m, true));
+    broken.push(("f, last message size", m, true, in_block(46, 2)));
 
-    for (rule, code, cantco, cantpro) in [("g", 1, 1, 0), ("h", 6, 0, 1), ("h too", 1, 0, 1)] {
+    for (rule, code, cantco, cantpro, number) in
+        [("g", 1, 1, 0, 47), ("h", 6, 0, 1, 48), ("h too", 1, 0, 1, 48)]
+    {
         let mut m = upto_g4(2);
         m.n(0, 2).n(0, 1).n(0, 8).n(0, 4).n(1, 1).dtg().n(0, 1).n(code, 3);
         m.n(cantco, 1);
@@ -490,19 +492,19 @@ fn every_rule_while_reading() {
             m.n(0, 6);
         }
         m.n(0, 1).n(0, 2);
-        broken.push((rule, m, false));
+        broken.push((rule, m, false, in_block(number, 1)));
     }
 
     for bit in 0..3 {
         let mut m = Hand::new();
         m.n(2, 4).n(0, 1).n(1, 1).urn(3).n(0, 3).n(0, 1).n(2, 4).n(0, 1);
         m.n(0, 2).n(0, 1).n(0, 8).n(0, 3).n(1, 1).n(1 << bit, 3).n(0, 3);
-        broken.push(("i", m, true));
+        broken.push(("i", m, true, in_block(49, 1)));
     }
 
-    for (rule, m, data) in broken {
+    for (rule, m, data, refusal) in broken {
         let d = if data { m.datagram() } else { m.octets() };
-        assert_eq!(read(&d), Err((8, 0)), "rule {rule}");
+        assert_eq!(read(&d), Err(refusal), "rule {rule}");
         assert_eq!(user_data(&d), &[] as &[u8]);
     }
 }
@@ -517,7 +519,7 @@ fn sizes_while_reading() {
         if told == 7 {
             assert!(got.unwrap().0.sized);
         } else {
-            assert_eq!(got, Err((10, 0)));
+            assert_eq!(got, Err(only(51)));
         }
     }
     // Message size of a single block.
@@ -526,11 +528,13 @@ fn sizes_while_reading() {
         m.start().n(0, 1).n(0, 1).n(2, 4).n(0, 3).n(1, 1).n(told, 20).n(0, 15);
         let d = with_data(&m.octets(), &vec![0xFF; count]);
         let got = read(&d);
-        if told as usize == count && count > 0 {
+        if told as usize != count {
+            assert_eq!(got, Err(only(52)));
+        } else if count == 0 {
+            assert_eq!(got, Err(in_block(53, 1)));
+        } else {
             assert_eq!(got.unwrap().0.blocks[0].message_size, Some(told));
             assert_eq!(user_data(&d).len(), count);
-        } else {
-            assert_eq!(got, Err((10, 0)));
         }
     }
     // A receipt for a forwarded message is wrong with and without data.
@@ -539,7 +543,7 @@ fn sizes_while_reading() {
         m.start().n(0, 1).n(0, 1).n(4, 4).n(0, 3).n(0, 1).n(0, 8).n(0, 4);
         m.n(1, 1).dtg().n(0, 1).n(1, 3).n(0, 3).n(0, 2);
         let d = with_data(&m.octets(), &vec![0; count]);
-        assert_eq!(read(&d), Err((10, 0)));
+        assert_eq!(read(&d), Err(in_block(53, 1)));
     }
 }
 
@@ -551,7 +555,7 @@ fn one_block_must_not_be_empty_even_if_the_sum_is_right() {
     m.n(1, 1).n(2, 4).n(0, 3).n(1, 1).n(0, 20).n(0, 15);
     m.n(0, 1).n(2, 4).n(0, 3).n(1, 1).n(2, 20).n(0, 15);
     assert_eq!(m.octets().len(), 15);
-    assert_eq!(read(&with_data(&m.octets(), &[1, 2])), Err((10, 0)));
+    assert_eq!(read(&with_data(&m.octets(), &[1, 2])), Err(in_block(53, 1)));
 }
 
 #[test]
@@ -560,9 +564,9 @@ fn the_longest_datagram() {
     assert_eq!(read(&fits), Ok((plain_header(), 5)));
     assert_eq!(user_data(&fits).len(), 65_502);
     let over = with_data(&A, &vec![0; 65_508 - 5]);
-    assert_eq!(read(&over), Err((12, 0)));
+    assert_eq!(read(&over), Err(only(12)));
     // Whatever else is wrong with it.
-    assert_eq!(read(&vec![0; 65_508]), Err((12, 0)));
+    assert_eq!(read(&vec![0; 65_508]), Err(only(12)));
     assert_eq!(user_data(&over), &[] as &[u8]);
 }
 

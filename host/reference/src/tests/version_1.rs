@@ -27,17 +27,17 @@ fn a_is_one_bit_shorter() {
     // Two records that differ in nothing else are still not the same.
     assert_ne!(read(&with_data(&A1, &[0])).unwrap().0, read(&with_data(&A, &[0])).unwrap().0);
 
-    assert_eq!(read(&A1), Err((10, 0)));
+    assert_eq!(read(&A1), Err(in_block(53, 1)));
     assert_eq!(user_data(&A1), &[] as &[u8]);
     // The presence bit of the security group is the last of the 32.
-    assert_eq!(read(&[0x01, 0x08, 0x00, 0x80, 0x5C]), Err((7, 31)));
+    assert_eq!(read(&[0x01, 0x08, 0x00, 0x80, 0x5C]), Err(at(7, 31)));
 
     let h = old(&plain_header());
-    assert_eq!(check(&h, 0), Err(10));
+    assert_eq!(check(&h, 0), Err(in_block(53, 1)));
     assert_eq!(check(&h, 65_503), Ok(4));
-    assert_eq!(check(&h, 65_504), Err(12));
+    assert_eq!(check(&h, 65_504), Err(only(12)));
     let mut out = [0xEE; 3];
-    assert_eq!(write(&h, 1, &mut out), Err(11));
+    assert_eq!(write(&h, 1, &mut out), Err(only(11)));
     assert_eq!(out, [0xEE; 3]);
 }
 
@@ -46,28 +46,28 @@ fn b_and_c() {
     let b = message(urn(207), vec![urn(3)], stamp(), requests(true, false, false));
     both_ways(&B1, &[0x01], &old(&b));
     both_ways(&C1, &[], &old(&answer(urn(3), urn(207), stamp(), 1)));
-    assert_eq!(read(&B1), Err((10, 0)));
-    assert_eq!(read(&with_data(&C1, &[0])), Err((10, 0)));
+    assert_eq!(read(&B1), Err(in_block(53, 1)));
+    assert_eq!(read(&with_data(&C1, &[0])), Err(in_block(54, 1)));
     // One bit of fill more than their like in version 2.
     let mut d = with_data(&B1, &[0x01]);
     d[15] = 0x04;
-    assert_eq!(read(&d), Err((9, 122)));
+    assert_eq!(read(&d), Err(at(9, 122)));
     let mut d = C1;
     d[15] = 0x20;
-    assert_eq!(read(&d), Err((9, 125)));
+    assert_eq!(read(&d), Err(at(9, 125)));
 }
 
 #[test]
 fn running_out() {
     for whole in [&A1[..], &B1[..], &C1[..]] {
         for cut in 0..whole.len() {
-            assert_eq!(read(&whole[..cut]).unwrap_err().0, 1, "{cut} octets");
+            assert_eq!(read(&whole[..cut]).unwrap_err().number, 1, "{cut} octets");
         }
     }
-    assert_eq!(read(&A1[..1]), Err((1, 8)));
-    assert_eq!(read(&A1[..2]), Err((1, 16)));
+    assert_eq!(read(&A1[..1]), Err(at(1, 8)));
+    assert_eq!(read(&A1[..2]), Err(at(1, 16)));
     // The classification is bits 23 and 24, so three octets cut it in two.
-    assert_eq!(read(&A1[..3]), Err((1, 23)));
+    assert_eq!(read(&A1[..3]), Err(at(1, 23)));
 }
 
 /// The standard's own example, version 1.
@@ -80,15 +80,15 @@ const EXAMPLE: [u8; 22] = [
 fn the_standards_example_has_an_address_of_both_forms() {
     // Version 0 to 3, compression 4, G1 5, number indicator 6, number 7 to 30:
     // bit 31, the top of octet 80, says that a name follows.
-    assert_eq!(read(&EXAMPLE), Err((6, 31)));
+    assert_eq!(read(&EXAMPLE), Err(at(6, 31)));
     // Also with the ten octets of its message.
     let d = with_data(&EXAMPLE, &[0; 10]);
-    assert_eq!(read(&d), Err((6, 31)));
+    assert_eq!(read(&d), Err(at(6, 31)));
     assert_eq!(user_data(&d), &[] as &[u8]);
     // The address stands left of all that the versions differ in.
     let mut d = EXAMPLE;
     d[0] = 0xE2;
-    assert_eq!(read(&d), Err((6, 31)));
+    assert_eq!(read(&d), Err(at(6, 31)));
 }
 
 #[test]
@@ -121,20 +121,20 @@ fn other_versions() {
         for whole in [with_data(&A, &[0]), with_data(&A1, &[0]), with_data(&B1, &[0]), C1.to_vec()] {
             let mut d = whole;
             d[0] = d[0] / 16 * 16 + version;
-            assert_eq!(read(&d), Err((2, 0)), "version {version}");
+            assert_eq!(read(&d), Err(at(2, 0)), "version {version}");
             assert_eq!(user_data(&d), &[] as &[u8]);
         }
         // One octet is enough to see it.
-        assert_eq!(read(&[version]), Err((2, 0)));
+        assert_eq!(read(&[version]), Err(at(2, 0)));
         let mut h = plain_header();
         h.version = u32::from(version);
-        assert_eq!(check(&h, 1), Err(2));
+        assert_eq!(check(&h, 1), Err(only(2)));
         let mut out = [0xEE; 8];
-        assert_eq!(write(&h, 1, &mut out), Err(2));
+        assert_eq!(write(&h, 1, &mut out), Err(only(2)));
         assert_eq!(out, [0xEE; 8]);
         // Ahead of a standard version, too large a one included.
         h.blocks[0].standard_version = Some(16);
-        assert_eq!(check(&h, 1), Err(2));
+        assert_eq!(check(&h, 1), Err(only(2)));
     }
 }
 
@@ -155,7 +155,7 @@ fn the_header_size_is_that_of_the_version() {
         if told == 6 {
             assert_eq!(got, Ok((h.clone(), 6)));
         } else {
-            assert_eq!(got, Err((10, 0)));
+            assert_eq!(got, Err(only(51)));
         }
     }
 }
@@ -189,9 +189,9 @@ fn every_block_lacks_the_bit() {
     let mut d = with_data(&m.octets(), &[7, 7]);
     assert_eq!(d.len(), 16);
     d[13] |= 0x80;
-    assert_eq!(read(&d), Err((9, 111)));
+    assert_eq!(read(&d), Err(at(9, 111)));
     let (m, places) = many_blocks(17);
-    assert_eq!(read(&m.datagram()), Err((5, places[15])));
+    assert_eq!(read(&m.datagram()), Err(at(5, places[15])));
 }
 
 #[test]
@@ -199,18 +199,18 @@ fn places_are_one_bit_to_the_left_behind_umf() {
     for value in 9..16 {
         let mut m = Hand::new();
         m.start_1().n(0, 1).n(0, 1).n(value, 4).n(0, 18);
-        assert_eq!(read(&m.datagram()), Err((3, 10)));
+        assert_eq!(read(&m.datagram()), Err(at(3, 10)));
     }
     // G4 14, file name 15, message size 16, eight bits from 17, marking 25,
     // G5 26: its year begins at 27.
     let mut m = Hand::new();
     m.start_1().n(0, 1).n(0, 1).n(2, 4).n(0, 3).n(0, 8).n(0, 1).n(1, 1).n(127, 7);
-    assert_eq!(read(&m.octets()), Err((3, 27)));
-    assert_eq!(read(&m.octets()[..4]), Err((1, 27)));
+    assert_eq!(read(&m.octets()), Err(at(3, 27)));
+    assert_eq!(read(&m.octets()[..4]), Err(at(1, 27)));
     // The file name begins at 16, right behind its indicator 15.
     let mut m = Hand::new();
     m.start_1().n(0, 1).n(0, 1).n(2, 4).n(0, 1).n(1, 1).n(127, 7).n(0, 40);
-    assert_eq!(read(&m.datagram()), Err((4, 16)));
+    assert_eq!(read(&m.datagram()), Err(at(4, 16)));
     // Four references and five; their presence bit is 30.
     for count in [4, 5] {
         let mut m = Hand::new();
@@ -223,14 +223,14 @@ fn places_are_one_bit_to_the_left_behind_umf() {
         match read(&m.datagram()) {
             Ok((h, _)) => assert_eq!(h.blocks[0].references, Some((40..44).map(reference).collect())),
             // Each entry takes 1 + 26 + 33 + 1 bits.
-            Err(refusal) => assert_eq!((count, refusal), (5, (5, 31 + 3 * 61))),
+            Err(refusal) => assert_eq!((count, refusal), (5, at(5, 31 + 3 * 61))),
         }
     }
 }
 
 #[test]
 fn fill_rules_sizes_in_this_order() {
-    // G7 28 without G1 (8); its three bits, G8 to G10: 35 bits, fill 35 to 39.
+    // G7 28 without G1 (41); its three bits, G8 to G10: 35 bits, fill 35 to 39.
     let mut m = Hand::new();
     m.start_1().n(0, 1).n(0, 1).n(2, 4).n(0, 3).n(0, 8).n(0, 3).n(1, 1).n(0, 3).n(0, 3);
     assert_eq!(m.place(), 35);
@@ -238,19 +238,19 @@ fn fill_rules_sizes_in_this_order() {
     for place in 35..40 {
         let mut d = clean.clone();
         d[4] |= 1 << (place - 32);
-        assert_eq!(read(&d), Err((9, place)));
+        assert_eq!(read(&d), Err(at(9, place)));
     }
-    assert_eq!(read(&clean), Err((8, 0)));
-    assert_eq!(read(&A1), Err((10, 0)));
+    assert_eq!(read(&clean), Err(in_block(41, 1)));
+    assert_eq!(read(&A1), Err(in_block(53, 1)));
     // The rules of records do not ask for the version either.
     let mut h = old(&plain_header());
     h.blocks[0].requests = Some(requests(false, false, false));
-    assert_eq!(check(&h, 1), Err(8));
+    assert_eq!(check(&h, 1), Err(in_block(41, 1)));
     h.originator = Some(urn(3));
     assert!(check(&h, 1).is_ok());
     let mut h = old(&answer(urn(3), urn(207), stamp(), 1));
     h.blocks[0].umf = 4;
-    assert_eq!(check(&h, 0), Err(10));
+    assert_eq!(check(&h, 0), Err(in_block(53, 1)));
 }
 
 /// A header with every group that can be sent, in two blocks because G8 stands
@@ -345,12 +345,12 @@ fn all_groups() -> Header {
 fn a_header_with_all_groups() {
     both_ways(&ALL_GROUPS, &[0x5C], &all_groups());
     for cut in 0..ALL_GROUPS.len() {
-        assert_eq!(read(&ALL_GROUPS[..cut]).unwrap_err().0, 1, "{cut} octets");
+        assert_eq!(read(&ALL_GROUPS[..cut]).unwrap_err().number, 1, "{cut} octets");
     }
     for place in 450..456 {
         let mut d = with_data(&ALL_GROUPS, &[0x5C]);
         d[56] = 1 << (place - 448);
-        assert_eq!(read(&d), Err((9, place)));
+        assert_eq!(read(&d), Err(at(9, place)));
     }
     // The same record in version 2 has 452 bits, and no fewer octets for it.
     let mut h = all_groups();
@@ -368,9 +368,9 @@ fn a_standard_version_is_one_field_too_many() {
     for value in [0, 1, 15, 16, u32::MAX] {
         let mut h = old(&plain_header());
         h.blocks[0].standard_version = Some(value);
-        assert_eq!(check(&h, 1), Err(3));
+        assert_eq!(check(&h, 1), Err(only(3)));
         let mut out = [0xEE; 9];
-        assert_eq!(write(&h, 1, &mut out), Err(3));
+        assert_eq!(write(&h, 1, &mut out), Err(only(3)));
         assert_eq!(out, [0xEE; 9]);
         h.version = 2;
         assert_eq!(check(&h, 1).is_ok(), value < 16);
@@ -384,13 +384,13 @@ fn a_standard_version_is_one_field_too_many() {
         h.blocks = vec![b; count];
         assert!(check(&h, count as u64).is_ok());
         h.blocks[count - 1].standard_version = Some(0);
-        assert_eq!(check(&h, count as u64), Err(3));
+        assert_eq!(check(&h, count as u64), Err(only(3)));
     }
 }
 
 /// Refusal of a version 1 record of two blocks; `extra` tells the block that
 /// has a standard version.
-fn refused(extra: usize, change: fn(&mut Header)) -> u32 {
+fn refused(extra: usize, change: fn(&mut Header)) -> Refusal {
     let mut h = old(&plain_header());
     h.blocks.push(plain_block());
     h.blocks[extra].standard_version = Some(0);
@@ -401,37 +401,38 @@ fn refused(extra: usize, change: fn(&mut Header)) -> u32 {
 #[test]
 fn the_field_too_many_is_judged_right_behind_umf() {
     // What stands left of it goes first. UMF's own fault has the same number.
-    assert_eq!(refused(0, |h| h.version = 3), 2);
-    assert_eq!(refused(0, |h| h.originator = Some(both())), 6);
-    assert_eq!(refused(0, |h| h.recipients = Some(vec![])), 5);
-    assert_eq!(refused(0, |h| h.information = Some(vec![name(b"")])), 4);
-    assert_eq!(refused(0, |h| h.blocks = vec![h.blocks[0].clone(); 17]), 5);
-    assert_eq!(refused(0, |h| h.blocks[0].umf = 9), 3);
-    assert_eq!(refused(1, |h| h.blocks[0].file_name = Some(vec![])), 4);
-    assert_eq!(refused(1, |h| h.blocks[0].references = Some(vec![])), 5);
+    assert_eq!(refused(0, |h| h.version = 3), only(2));
+    assert_eq!(refused(0, |h| h.originator = Some(both())), only(6));
+    assert_eq!(refused(0, |h| h.recipients = Some(vec![])), only(5));
+    assert_eq!(refused(0, |h| h.information = Some(vec![name(b"")])), only(4));
+    assert_eq!(refused(0, |h| h.blocks = vec![h.blocks[0].clone(); 17]), only(5));
+    assert_eq!(refused(0, |h| h.blocks[0].umf = 9), only(3));
+    assert_eq!(refused(1, |h| h.blocks[0].file_name = Some(vec![])), only(4));
+    assert_eq!(refused(1, |h| h.blocks[0].references = Some(vec![])), only(5));
     // What stands right of it does not come to be judged, G4 (3 as well), the
     // texts and lists behind it, and the next block.
     let wide = Identity { fad: 16, number: 128, subtype: Some(128) };
     let mut h = old(&plain_header());
     h.blocks[0].standard_version = Some(0);
     h.blocks[0].identity = Some(wide);
-    assert_eq!(check(&h, 1), Err(3));
-    assert_eq!(refused(0, |h| h.blocks[0].file_name = Some(vec![])), 3);
-    assert_eq!(refused(0, |h| h.blocks[0].references = Some(vec![])), 3);
-    assert_eq!(refused(0, |h| h.blocks[1].marking = Some(vec![])), 3);
-    assert_eq!(refused(1, |h| h.blocks[1].marking = Some(vec![])), 3);
-    // These are 8 and 10 once it is gone.
-    assert_eq!(refused(0, |_| ()), 3);
-    assert_eq!(refused(0, |h| h.blocks[0].standard_version = None), 8);
+    assert_eq!(check(&h, 1), Err(only(3)));
+    assert_eq!(refused(0, |h| h.blocks[0].file_name = Some(vec![])), only(3));
+    assert_eq!(refused(0, |h| h.blocks[0].references = Some(vec![])), only(3));
+    assert_eq!(refused(0, |h| h.blocks[1].marking = Some(vec![])), only(3));
+    assert_eq!(refused(1, |h| h.blocks[1].marking = Some(vec![])), only(3));
+    // These lack the header size (46) and are one octet short (52) once it is
+    // gone.
+    assert_eq!(refused(0, |_| ()), only(3));
+    assert_eq!(refused(0, |h| h.blocks[0].standard_version = None), only(46));
     assert_eq!(refused(0, |h| {
         h.blocks.truncate(1);
         h.blocks[0].message_size = Some(1);
-    }), 3);
+    }), only(3));
     assert_eq!(refused(0, |h| {
         h.blocks.truncate(1);
         h.blocks[0].message_size = Some(1);
         h.blocks[0].standard_version = None;
-    }), 10);
+    }), only(52));
 }
 
 /// The bits of one pair of headers, which differ in their first octet and in
@@ -482,11 +483,11 @@ fn a_changed_version_may_also_spoil_a_header() {
     // A of version 1 ends with bit 31. Version 2 wants bit 32 as well, which is
     // the data's, and seven bits of fill.
     for (data, expected) in [
-        (&[0x00][..], Err((10, 0))),
-        (&[0x01][..], Err((7, 32))),
-        (&[0xAA][..], Err((9, 33))),
+        (&[0x00][..], Err(in_block(53, 1))),
+        (&[0x01][..], Err(at(7, 32))),
+        (&[0xAA][..], Err(at(9, 33))),
         (&[0x00, 0x5C][..], Ok((plain_header(), 5))),
-        (&[][..], Err((1, 32))),
+        (&[][..], Err(at(1, 32))),
     ] {
         let mut d = with_data(&A1, data);
         d[0] = 0x02;
@@ -504,10 +505,10 @@ fn a_changed_version_may_also_spoil_a_header() {
     // entry, and 118 and 119 name neither form.
     let mut d = with_data(&B, &[0x01]);
     d[0] = 0xE1;
-    assert_eq!(read(&d), Err((6, 119)));
+    assert_eq!(read(&d), Err(at(6, 119)));
     // C: bit 83, its G8, becomes G9; the entry's recurrence bit 84 and its
     // indicators 85 and 86, the year's low bits, are zero.
     let mut d = C;
     d[0] = 0xE1;
-    assert_eq!(read(&d), Err((6, 86)));
+    assert_eq!(read(&d), Err(at(6, 86)));
 }
