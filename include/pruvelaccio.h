@@ -109,10 +109,15 @@ typedef struct pruvelaccio_front {
     pruvelaccio_optional_addresses information; /* G3; G2 and G3 hold at most 16 together */
 } pruvelaccio_front;
 
+/*
+ * A day that its month has: April, June, September and November have 30, February has 29 in a year that
+ * divides by four and 28 in any other, the rest have 31. A record or a key with another day is refused with 3,
+ * a table with one in a row with 30.
+ */
 typedef struct pruvelaccio_date {
-    uint32_t year;
-    uint32_t month;
-    uint32_t day;
+    uint32_t year;  /* its last two digits, 0 to 99; 0 is 2000 */
+    uint32_t month; /* 1 to 12 */
+    uint32_t day;   /* from 1 on */
 } pruvelaccio_date;
 
 typedef struct pruvelaccio_time {

@@ -210,6 +210,9 @@ typedef struct datagram_case {
 } datagram_case;
 
 /*
+ * The dates stand in G5, whose indicator is bit 27: the year has bits 28 to 34, the month 35 to 38 and the day 39 to
+ * 43; behind them is 16:27:55.
+ *
  * The last ones have sizes. Bit 8 is the header size's indicator; where it is 1, the size has bits 9 to 24, and the
  * first block begins at bit 25. The message size has its indicator and 20 bits: bits 17 to 37, or 33 to 53 behind a
  * header size. A second block behind those begins at bit 69, with its format at 70 and its size's indicator at 77.
@@ -225,6 +228,12 @@ static const datagram_case datagram_cases[] = {
     {"G10 present", {0x02, 0x08, 0x00, 0x00, 0x01, 0x01}, 6, {7, 0, 32}},
     {"requests without an originator", {0x02, 0x08, 0x00, 0x20, 0x00, 0x01}, 6, {41, 1, 0}},
     {"a fill bit", {0x02, 0x08, 0x00, 0x00, 0x02, 0x01}, 6, {9, 0, 33}},
+    {"31 June 96", {0x02, 0x08, 0x00, 0x08, 0xB6, 0x0F, 0xB7, 0x1B, 0x00, 0x01}, 10, {3, 0, 39}},
+    {"31 June 96 and nothing behind it", {0x02, 0x08, 0x00, 0x08, 0xB6, 0x0F}, 6, {3, 0, 39}},
+    {"29 February 01", {0x02, 0x08, 0x00, 0x18, 0x90, 0x0E, 0xB7, 0x1B, 0x00, 0x01}, 10, {3, 0, 39}},
+    {"30 February 00", {0x02, 0x08, 0x00, 0x08, 0x10, 0x0F, 0xB7, 0x1B, 0x00, 0x01}, 10, {3, 0, 39}},
+    {"31 of month 13", {0x02, 0x08, 0x00, 0x08, 0xEE, 0x0F, 0xB7, 0x1B, 0x00, 0x01}, 10, {3, 0, 35}},
+    {"31 June 100", {0x02, 0x08, 0x00, 0x48, 0xB6, 0x0F, 0xB7, 0x1B, 0x00, 0x01}, 10, {3, 0, 28}},
     {"no data", {0x02, 0x08, 0x00, 0x00, 0x00}, 5, {53, 1, 0}},
     {"header size 6 of 7", {0x02, 0x0D, 0x00, 0x08, 0x00, 0x00, 0x00, 0x01}, 8, {51, 0, 0}},
     {"header size 6 of 7, no data", {0x02, 0x0D, 0x00, 0x08}, 7, {51, 0, 0}},
@@ -364,6 +373,20 @@ static void spoil_format(pruvelaccio_header *header)
     header->blocks.list[0].format.umf = 9;
 }
 
+static const pruvelaccio_date june_31 = {96, 6, 31};
+static const pruvelaccio_date february_29 = {1, 2, 29};
+
+static void spoil_day(pruvelaccio_header *header)
+{
+    header->blocks.list[0].times.origin.stamp.dtg.date = june_31;
+}
+
+static void spoil_perish(pruvelaccio_header *header)
+{
+    header->blocks.list[0].times.perish.present = true;
+    header->blocks.list[0].times.perish.dtg.date = february_29;
+}
+
 static void spoil_name(pruvelaccio_header *header)
 {
     header->front.originator.address.urn.present = false;
@@ -483,6 +506,8 @@ static const record_case record_cases[] = {
     {"every octet a pattern", spoil_all, MESSAGE_DATA, {2, 0, 0}},
     {"every octet a pattern but the version's", spoil_all_but_version, MESSAGE_DATA, {3, 0, 0}},
     {"UMF 9", spoil_format, MESSAGE_DATA, {3, 0, 0}},
+    {"31 June", spoil_day, MESSAGE_DATA, {3, 0, 0}},
+    {"29 February 01 in G6", spoil_perish, MESSAGE_DATA, {3, 0, 0}},
     {"a name of no characters", spoil_name, MESSAGE_DATA, {4, 0, 0}},
     {"4,294,967,295 blocks", spoil_count, MESSAGE_DATA, {5, 0, 0}},
     {"2,779,096,485 recipients", spoil_recipients, MESSAGE_DATA, {5, 0, 0}},
@@ -524,6 +549,32 @@ static void written(const char *what)
     nothing_else_changed(write_call, "a message: the header's octets and their count alone");
 }
 
+/* A month's last day is taken, and the day behind it is not. */
+static void last_day(uint32_t year, uint32_t month, uint32_t last)
+{
+    pruvelaccio_date *date = &now.header.blocks.list[0].times.origin.stamp.dtg.date;
+    set_up();
+    date->year = year;
+    date->month = month;
+    date->day = last;
+    done(check_call, "a month's last day", 0, MESSAGE_DATA);
+    date->day = last + 1;
+    refused_at_0(check_call, "the day behind a month's last", 0, MESSAGE_DATA, 3);
+}
+
+static void last_days(void)
+{
+    static const uint32_t last[] = {31, 28, 31, 30, 31, 30, 31, 31, 30, 31, 30, 31};
+    for (uint32_t i = 0; i < LENGTH(last); i++) {
+        last_day(1, i + 1, last[i]);
+    }
+    last_day(0, 2, 29);
+    last_day(4, 2, 29);
+    last_day(96, 2, 29);
+    last_day(98, 2, 28);
+    last_day(99, 2, 28);
+}
+
 static void writing(void)
 {
     set_up();
@@ -563,6 +614,16 @@ static void crowd(pruvelaccio_table *table)
     table->rows[0].count = PRUVELACCIO_ADDRESSEES + 1;
 }
 
+static void hold_june_31(pruvelaccio_table *table)
+{
+    table->rows[0].key.stamp.dtg.date = june_31;
+}
+
+static void hold_february_29(pruvelaccio_table *table)
+{
+    table->rows[0].key.stamp.dtg.date = february_29;
+}
+
 typedef struct table_case {
     const char *what;
     void (*spoil)(pruvelaccio_table *table);
@@ -570,7 +631,8 @@ typedef struct table_case {
 
 static const table_case table_cases[] = {
     {"every octet a pattern", pattern_all}, {"33 rows", count_33},         {"nothing asked", ask_nothing},
-    {"a code that does not fit", misfit_code}, {"17 recipients", crowd},
+    {"a code that does not fit", misfit_code}, {"17 recipients", crowd},   {"31 June", hold_june_31},
+    {"29 February 01", hold_february_29},
 };
 
 static void tables_refused(call made)
@@ -717,6 +779,12 @@ static void releasing(void)
     now.key = now.table.rows[0].key;
     now.key.address.urn.value = 1 << 24;
     refused_at_0(release_call, "a URN of 25 bits", 0, 0, 3);
+    now.key = now.table.rows[0].key;
+    now.key.stamp.dtg.date = june_31;
+    refused_at_0(release_call, "31 June", 0, 0, 3);
+    now.key.stamp.dtg.date = february_29;
+    refused_at_0(release_call, "29 February 01", 0, 0, 3);
+    now.key = now.table.rows[0].key;
     now.key.address.urn.value = 208;
     refused_at_0(release_call, "another originator", 0, 0, 26);
     now.key.address.name.present = true;
@@ -1119,6 +1187,7 @@ static void calls_with_records(void)
     records_refused(write_call);
     records_refused(post_call);
     records_refused(receipt_call);
+    last_days();
     writing();
 }
 

@@ -1,13 +1,15 @@
 // A date-time group, alone and with its extension.
 ghost use mathlib.Core.Path.{_≡_};
+ghost use Rattle.cells.specs.Cells.{wordIn};
 ghost use Rattle.codec.specs.Refusals.{checkNo};
-ghost use Rattle.header.specs.Table.{date, time, dtg, stamp};
+ghost use Rattle.header.specs.Table.{dayIn, date, time, dtg, stamp};
 ghost use Rattle.record_octets.specs.Record.{sizeOfDate, dateIn, sizeOfTime, timeIn, sizeOfDtg, dtgIn, sizeOfStamp, stampIn};
 ghost use lib.ListN.{length};
+use cells::load_word;
 use codec::Check;
 use codec::Fault;
 use codec::earlier;
-use header::layout::DAY;
+use header::calendar::day_in;
 use header::layout::EXTENSION;
 use header::layout::HOUR;
 use header::layout::MINUTE;
@@ -16,20 +18,32 @@ use header::layout::SECOND;
 use header::layout::YEAR;
 use leaves::numbers::check_optional;
 use leaves::numbers::check_word;
+use number::check_number;
 use record_octets::in_date;
 use record_octets::in_dtg;
 use record_octets::in_stamp;
 use record_octets::in_time;
 
+// Of the days of a month.
+fn check_day(year: u32, month: u32, x: &[u8]) -> Check
+    requires { ⌜ length (now x) ≡ 4 ⌝ }
+    ensures { λ r. ⌜ checkNo r ≡ dayIn year month .check (wordIn (now (x .entry))) ⌝ }
+{
+    let days = day_in(year, month);
+    check_word(days, Fault::Code, x)
+}
+
 pub fn check_date(x: &[u8]) -> Check
     requires { ⌜ length (now x) ≡ sizeOfDate ⌝ }
     ensures { λ r. ⌜ checkNo r ≡ date .check (dateIn (now (x .entry))) ⌝ }
 {
-    let year = check_word(YEAR, Fault::Code, &x[in_date::YEAR..in_date::MONTH]);
-    let month = check_word(MONTH, Fault::Code, &x[in_date::MONTH..in_date::DAY]);
-    let day = check_word(DAY, Fault::Code, &x[in_date::DAY..in_date::END]);
-    let rest = earlier(month, day);
-    earlier(year, rest)
+    let year = load_word(&x[in_date::YEAR..in_date::MONTH]);
+    let month = load_word(&x[in_date::MONTH..in_date::DAY]);
+    let years = check_number(YEAR, Fault::Code, year);
+    let months = check_number(MONTH, Fault::Code, month);
+    let days = check_day(year, month, &x[in_date::DAY..in_date::END]);
+    let rest = earlier(months, days);
+    earlier(years, rest)
 }
 
 pub fn check_time(x: &[u8]) -> Check

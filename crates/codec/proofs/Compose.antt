@@ -206,10 +206,10 @@ unfolding _closedBy_
 closed-writes c fault y s t u p q r e f =
     shape-writes _ _ _ _ _ _ y s u p r (then-writes c (λ x. must false fault) (y, false) s t u p q r e (tested-writes (λ x. same x false) fault flag false t u q r f))
 
--- a number's bits do not depend on its refusal
-pub number-writes : (w lo hi f g : ℕ) (v : ℕ) (s t : List ℕ) (p q : ℕ) → Writes (number w lo hi f) v s t p q → Writes (number w lo hi g) v s t p q
+-- a number's bits depend on its width alone, not on which numbers are legal nor on how others are refused
+pub number-writes : (w lo hi f least most g : ℕ) (v : ℕ) (s t : List ℕ) (p q : ℕ) → Writes (number w lo hi f) v s t p q → Writes (number w least most g) v s t p q
 unfolding number
-number-writes w lo hi f g v s t p q e = record { bits = e .bits; ends = e .ends; next = e .next }
+number-writes w lo hi f least most g v s t p q e = record { bits = e .bits; ends = e .ends; next = e .next }
 
 pub ruleset writing = (then-writes, shape-writes, present-writes, absent-writes, tested-writes, tested-then-writes)
 

@@ -9,8 +9,9 @@ use Rattle.codec.specs.Lists.{recurs, listed}
 use Rattle.codec.proofs.Bounds.{Bounded, number-bounded, flag-bounded, thenBy-bounded, behind-bounded, and-bounded, present-bounded, optional-bounded, shaped-bounded, tested-bounded, must-bounded, closedBy-bounded, characters-bounded, listed-each, cells-bounded, cells-legal, cells-counted, cells-each, unless-bounded}
 use Rattle.optional.specs.Optionals.{optionalNumber}
 use Rattle.text.specs.Texts.{text, noText}
+use Rattle.header.specs.Calendar.{daysIn}
 use Rattle.header.specs.Zero.{noAddress, noAddresses, noDtg, noStamp, noIdentity, noRequests, noResponse, noReference, noReferences, noBlock}
-use Rattle.header.specs.Table.{maybe, optionalText, unitName, address, addresses, originator, recipients, roomBehind, information, front, date, time, dtg, stamp, identity, optionalIdentity, standardVersion, format, codes, handling, optionalStamp, optionalDtg, requests, optionalRequests, times, compliance, response, optionalResponse, reference, references, optionalReferences, block, blocks, wire}
+use Rattle.header.specs.Table.{maybe, optionalText, unitName, address, addresses, originator, recipients, roomBehind, information, front, dayIn, date, time, dtg, stamp, identity, optionalIdentity, standardVersion, format, codes, handling, optionalStamp, optionalDtg, requests, optionalRequests, times, compliance, response, optionalResponse, reference, references, optionalReferences, block, blocks, wire}
 use Rattle.header.specs.declared.Addresses.{Addresses}
 use Rattle.header.specs.declared.OptionalAddresses.{OptionalAddresses}
 use Rattle.header.specs.declared.Wire.{Wire}
@@ -78,10 +79,10 @@ front-bounded =
     (thenBy-bounded recipients _ (λ g. 1 + suc (roomBehind g - 1) * 475) lists-size (λ g. information-bounded (roomBehind g))))
 
 dtg-bounded : Bounded dtg 33
-unfolding dtg date time
+unfolding dtg date time dayIn
 dtg-bounded =
     shaped-bounded _ _
-    (and-bounded (shaped-bounded _ _ (and-bounded (number-bounded 7 0 99 3) (and-bounded (number-bounded 4 1 12 3) (number-bounded 5 1 31 3))))
+    (and-bounded (shaped-bounded _ _ (behind-bounded (number-bounded 7 0 99 3) (λ year. behind-bounded (number-bounded 4 1 12 3) (λ month. number-bounded 5 1 (daysIn year month) 3))))
     (shaped-bounded _ _ (and-bounded (number-bounded 5 0 23 3) (and-bounded (number-bounded 6 0 59 3) (number-bounded 6 0 59 3)))))
 
 stamp-bounded : Bounded stamp 46

@@ -1,10 +1,11 @@
 -- Table I has a codec's laws, group by group and whole: a header that may be written is read back, what is read is written again as the same bits, and no
 -- header begins another. Assumes nothing.
-use Prim.Native.Nat.{ℕ, suc, _-_, _≤_, _<_, _^_}
+use Prim.Native.Nat.{ℕ, suc, _-_, _%_, _≤_, _<_, _^_}
 use mathlib.Core.Path.{_≡_, refl, ap}
-use mathlib.Core.Bool.{Bool, true, false, not}
+use mathlib.Core.Bool.{Bool, true, false, not, _||_}
 use lib.Dec.{eqb, lit<, lit≤}
 use native.Mathlib.Omega.{arith}
+use Rattle.codec.specs.Answer.{pick}
 use Rattle.codec.specs.Codec.{number, flag, tested, must, nothing, present, viewed, _thenBy_, _&_}
 use Rattle.codec.specs.Lists.{recurs, listed, cells}
 use Rattle.codec.proofs.Lawful.{Lawful}
@@ -17,8 +18,9 @@ use Rattle.optional.specs.declared.OptionalNumber.{OptionalNumber}
 use Rattle.optional.proofs.Lawful.{optional-number-lawful}
 use Rattle.text.specs.Texts.{noText}
 use Rattle.text.proofs.Lawful.{text-lawful}
+use Rattle.header.specs.Calendar.{daysIn}
 use Rattle.header.specs.Zero.{noNumber, noAddress, noAddresses, noDtg, noStamp, noIdentity, noRequests, noResponse, noReference, noReferences, noBlock}
-use Rattle.header.specs.Table.{maybe, optionalText, unitName, address, addresses, originator, recipients, roomBehind, information, front, date, time, dtg, stamp, identity, optionalIdentity, standardVersion, format, codes, handling, optionalStamp, optionalDtg, requests, optionalRequests, times, compliance, response, optionalResponse, reference, references, optionalReferences, block, blocks, wire}
+use Rattle.header.specs.Table.{maybe, optionalText, unitName, address, addresses, originator, recipients, roomBehind, information, front, dayIn, date, time, dtg, stamp, identity, optionalIdentity, standardVersion, format, codes, handling, optionalStamp, optionalDtg, requests, optionalRequests, times, compliance, response, optionalResponse, reference, references, optionalReferences, block, blocks, wire}
 use Rattle.header.specs.declared.OptionalAddresses.{OptionalAddresses}
 use Rattle.header.specs.declared.Front.{Front}
 
@@ -89,10 +91,29 @@ front-lawful =
     (thenBy-lawful recipients _ recipients-lawful (λ g. information-lawful (roomBehind g) (omega arith)) (λ g l. ap information (room-norm g))))
     (λ x. refl)
 
+-- no month has more days than the day's bits can tell
+days-most : (year month : ℕ) → daysIn year month < 2 ^ 5
+unfolding daysIn
+days-most year month = go (eqb month 2) (eqb (year % 4) 0) (eqb month 4 || eqb month 6 || eqb month 9 || eqb month 11)
+  where
+    go : (february leap short : Bool) → pick february (pick leap 29 28) (pick short 30 31) < 2 ^ 5
+    go true true short = lit< tt
+    go true false short = lit< tt
+    go false leap true = lit< tt
+    go false leap false = lit< tt
+
+day-lawful : (year month : ℕ) → Lawful (dayIn year month)
+unfolding dayIn
+day-lawful year month = num 5 1 (daysIn year month) 3 (lit< tt) (days-most year month) (lit< tt)
+
 date-lawful : Lawful date
-unfolding date
+unfolding date number
 date-lawful =
-    shaped-lawful _ _ (and-lawful (num 7 0 99 3 (lit< tt) (lit< tt) (lit< tt)) (and-lawful (num 4 1 12 3 (lit< tt) (lit< tt) (lit< tt)) (num 5 1 31 3 (lit< tt) (lit< tt) (lit< tt)))) (λ x. refl)
+    shaped-lawful _ _
+    (thenBy-lawful (number 7 0 99 3) _ (num 7 0 99 3 (lit< tt) (lit< tt) (lit< tt))
+    (λ year. thenBy-lawful (number 4 1 12 3) _ (num 4 1 12 3 (lit< tt) (lit< tt) (lit< tt)) (day-lawful year) (λ m l. refl))
+    (λ y l. refl))
+    (λ x. refl)
 
 time-lawful : Lawful time
 unfolding time

@@ -10,7 +10,7 @@ use Rattle.codec.proofs.Agrees.{Agrees, exact-agrees, number-agrees, characters
 use Rattle.optional.specs.Optionals.{optionalNumber}
 use Rattle.text.specs.Texts.{text, noText}
 use Rattle.header.specs.Zero.{noAddress, noAddresses, noDtg, noStamp, noIdentity, noRequests, noResponse, noReference, noReferences, noBlock}
-use Rattle.header.specs.Table.{maybe, optionalText, unitName, address, addresses, originator, recipients, roomBehind, information, front, date, time, dtg, stamp, identity, optionalIdentity, standardVersion, format, codes, handling, optionalStamp, optionalDtg, requests, optionalRequests, times, compliance, response, optionalResponse, reference, references, optionalReferences, block, blocks}
+use Rattle.header.specs.Table.{maybe, optionalText, unitName, address, addresses, originator, recipients, roomBehind, information, front, dayIn, date, time, dtg, stamp, identity, optionalIdentity, standardVersion, format, codes, handling, optionalStamp, optionalDtg, requests, optionalRequests, times, compliance, response, optionalResponse, reference, references, optionalReferences, block, blocks}
 use Rattle.header.specs.Same.{sameNumber, sameText, sameOptionalText, sameAddress, sameAddresses, sameOptionalAddress, sameOptionalAddresses, sameFront, sameOptionalDtg, sameStamp, sameOptionalStamp, sameIdentity, sameOptionalIdentity, sameFormat, sameHandling, sameOptionalRequests, sameTimes, sameCompliance, sameResponse, sameOptionalResponse, sameReference, sameReferences, sameOptionalReferences, sameBlock, sameBlocks, Same, headerNorm}
 use Rattle.header.specs.declared.Addresses.{Addresses}
 use Rattle.header.specs.declared.OptionalAddresses.{OptionalAddresses}
@@ -79,7 +79,7 @@ front-agrees =
 
 -- without unused cells
 dtg-agrees : Agrees dtg _≡_
-unfolding dtg date time viewed _thenBy_ number
+unfolding dtg date dayIn time viewed _thenBy_ number
 dtg-agrees = exact-agrees (λ x. refl)
 
 pub stamp-agrees : Agrees stamp sameStamp

@@ -1,4 +1,5 @@
 pub mod Zero
+pub mod Calendar
 pub mod Table
 pub mod Order
 pub mod Rules

@@ -8,6 +8,7 @@ use Rattle.codec.specs.Lists.{recurs, listed, cells}
 use Rattle.optional.specs.declared.OptionalNumber.{OptionalNumber}
 use Rattle.optional.specs.Optionals.{optionalNumber}
 use Rattle.text.specs.Texts.{text, noText}
+use Rattle.header.specs.Calendar.{daysIn}
 use Rattle.header.specs.Zero.{noNumber, noAddress, noAddresses, noDtg, noStamp, noIdentity, noRequests, noResponse, noReference, noReferences, noBlock}
 use Rattle.header.specs.declared.OptionalText.{OptionalText}
 use Rattle.header.specs.declared.Address.{Address}
@@ -87,9 +88,17 @@ front =
     (λ y. ((y .version, (y .compression, y .originator)), (y .recipients, y .information)))
     ((number 4 1 2 2 & maybe 2 0 1 & originator) & (recipients thenBy (λ g. information (roomBehind g))))
 
+-- day 5, of the days that its month has
+unfoldable pub dayIn : ℕ → ℕ → Codec ℕ
+dayIn year month = number 5 1 (daysIn year month) 3
+
 -- year 7, month 4, day 5
 unfoldable pub date : Codec Date
-date = shaped (λ x. record { year = x .0; month = x .1 .0; day = x .1 .1 }) (λ y. (y .year, (y .month, y .day))) (number 7 0 99 3 & number 4 1 12 3 & number 5 1 31 3)
+date =
+    shaped
+    (λ x. record { year = x .0; month = x .1 .0; day = x .1 .1 })
+    (λ y. (y .year, (y .month, y .day)))
+    (number 7 0 99 3 thenBy (λ year. number 4 1 12 3 thenBy (λ month. dayIn year month)))
 
 -- hour 5, minute 6, second 6
 unfoldable pub time : Codec Time

@@ -97,6 +97,7 @@ pub const MONTH: Range = Range {
     most: 12,
 };
 
+// In the longest month. Which days there are in another is `calendar::day_in`; the bits are as many in each.
 pub const DAY: Range = Range {
     width: 5,
     least: 1,

@@ -4,6 +4,7 @@ use optional::OptionalNumber;
 use text::Text;
 
 pub mod addressees;
+pub mod calendar;
 pub mod editions;
 pub mod layout;
 pub mod zero;

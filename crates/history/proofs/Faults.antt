@@ -11,8 +11,9 @@ use Rattle.codec.specs.Characters.{characters, legalCharacters}
 use Rattle.codec.specs.Lists.{recurs, listed, cells}
 use Rattle.optional.specs.Optionals.{optionalNumber}
 use Rattle.text.specs.Texts.{text, noText}
+use Rattle.header.specs.Calendar.{daysIn}
 use Rattle.header.specs.Zero.{noAddress, noAddresses, noDtg, noStamp, noIdentity, noRequests, noResponse, noReference, noReferences, noBlock}
-use Rattle.header.specs.Table.{maybe, optionalText, unitName, address, addresses, originator, recipients, roomBehind, information, front, date, time, dtg, stamp, identity, optionalIdentity, standardVersion, format, codes, handling, optionalStamp, optionalDtg, requests, optionalRequests, times, compliance, response, optionalResponse, reference, references, optionalReferences, block, blocks}
+use Rattle.header.specs.Table.{maybe, optionalText, unitName, address, addresses, originator, recipients, roomBehind, information, front, dayIn, date, time, dtg, stamp, identity, optionalIdentity, standardVersion, format, codes, handling, optionalStamp, optionalDtg, requests, optionalRequests, times, compliance, response, optionalResponse, reference, references, optionalReferences, block, blocks}
 use Rattle.codec.specs.Verdict.{Verdict, plain, fine, inBlock, firstOf}
 use Rattle.header.specs.Order.{Rule, over, inOrder}
 use Rattle.header.specs.Rules.{rules, settingOf, usedBlocks}
@@ -163,10 +164,10 @@ module _ (P : ℕ → Type 0) (none-given : P 0) where
     address-gives = shaped-gives _ _ (behind-gives (may 24 0 16777215) (λ u. unit-name-gives (not (u .present))))
 
     dtg-gives : Gives dtg
-    unfolding dtg date time
+    unfolding dtg date dayIn time
     dtg-gives =
         shaped-gives _ _
-        (and-gives (shaped-gives _ _ (and-gives (num 7 0 99) (and-gives (num 4 1 12) (num 5 1 31)))) (shaped-gives _ _ (and-gives (num 5 0 23) (and-gives (num 6 0 59) (num 6 0 59)))))
+        (and-gives (shaped-gives _ _ (behind-gives (num 7 0 99) (λ year. behind-gives (num 4 1 12) (λ month. num 5 1 (daysIn year month))))) (shaped-gives _ _ (and-gives (num 5 0 23) (and-gives (num 6 0 59) (num 6 0 59)))))
 
     stamp-gives : Gives stamp
     unfolding stamp

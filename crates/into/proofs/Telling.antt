@@ -8,12 +8,13 @@ use denote.Enum.Declared.{tagOf}
 use Rattle.bits.specs.declared.BitPlace.{BitPlace}
 use Rattle.codec.specs.Answer.{got, refused, next}
 use Rattle.codec.specs.Codec.{Codec, _thenBy_, viewed, present}
-use Rattle.codec.specs.Refusals.{faultNo, answer, flagAnswer}
+use Rattle.codec.specs.Refusals.{faultNo, answer, numberAnswer, flagAnswer}
 use Rattle.codec.specs.declared.Fault.{Fault}
 use Rattle.codec.specs.declared.Flag.{Flag}
+use Rattle.codec.specs.declared.Number.{Number}
 use Rattle.codec.specs.declared.Step.{Step}
 use Rattle.codec.proofs.Step as step
-use Rattle.codec.proofs.Compose.{Gets, Stops, stopped, ended, group-got, flag-got}
+use Rattle.codec.proofs.Compose.{Gets, Stops, stopped, ended, group-got, number-got, flag-got}
 use Rattle.into.specs.Into.{Into}
 
 -- the last step of a group says how the group's reading ends, with x beside it
@@ -33,6 +34,10 @@ module _ (bs : List Bool) (p : ℕ) where
     pub tells-group-then : (st u : Step) (x : A) (y : B) (q : BitPlace) → answer u x ≡ c .read bs p → u ≡ Step.Next q → Tells (d x) bs (q .0) st y → Tells (c thenBy d) bs p st (x, y)
     tells-group-then st u x y q e g h = tells-then x y (q .0) st (group-got bs p c u x q e g) h
 
+  module _ {B : Type 0} (c : Codec ℕ) (d : ℕ → Codec B) where
+    pub tells-number-then : (st : Step) (n : Number) (x : ℕ) (y : B) (q : BitPlace) → numberAnswer n ≡ c .read bs p → n ≡ Number.Got x q → Tells (d x) bs (q .0) st y → Tells (c thenBy d) bs p st (x, y)
+    tells-number-then st n x y q e g h = tells-then c d x y (q .0) st (number-got bs p c n x q e g) h
+
   module _ {B : Type 0} (c : Codec Bool) (d : Bool → Codec B) where
     pub tells-flag-then : (st : Step) (n : Flag) (x : Bool) (y : B) (q : BitPlace) → flagAnswer n ≡ c .read bs p → n ≡ Flag.Got x q → Tells (d x) bs (q .0) st y → Tells (c thenBy d) bs p st (x, y)
     tells-flag-then st n x y q e g h = tells-then c d x y (q .0) st (flag-got bs p c n x q e g) h
@@ -48,7 +53,7 @@ module _ (bs : List Bool) (p : ℕ) where
     unfolding present
     tells-present st y e h = rw e h
 
-pub ruleset telling = (tells-here, tells-group-then, tells-flag-then, tells-shape, tells-present)
+pub ruleset telling = (tells-here, tells-group-then, tells-number-then, tells-flag-then, tells-shape, tells-present)
 
 -- ---- the contract of a reading into octets
 
@@ -64,6 +69,10 @@ module _ {A : Type 0} {c : Codec A} {to : A → List ℕ} {Typed : A → Type 0}
     where
       go : (u : Step) (q : BitPlace) → u ≡ Step.Next q → u ≡ Step.Refused (s .fault) (s .place) → ⊥
       go u q e f = let t : tagOf step.the-type (Step.Next q) ≡ tagOf step.the-type (Step.Refused (s .fault) (s .place)) = ap (tagOf step.the-type) (sym e ∙ f) in omega arith
+
+  -- another name of the same codec
+  pub into-as : (d : Codec A) (st : Step) → c ≡ d → Into c to Typed bs p st after → Into d to Typed bs p st after
+  into-as d st e i = record { value = i .value; told = i .told ∙ ap (λ (k : Codec A). k .read bs p) e; held = i .held }
 
   -- the group's last field
   pub into-tell : (x : A) (st : Step) → Tells c bs p st x → ((q : BitPlace) → st ≡ Step.Next q → (after ≡ to x) × Typed x) → Into c to Typed bs p st after

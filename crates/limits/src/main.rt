@@ -3,6 +3,7 @@
 // and, where the refusal is about one, the block. The file stdout has what each has to be, counted from the
 // papers; the count stands beside the case, and the places of a header's fields beside the function of
 // `headers` that builds it.
+mod days;
 mod draft;
 mod groups;
 mod headers;
@@ -211,8 +212,8 @@ fn old_octets_a() {
     tell(b"version 1, A cut to 1", b"\x01");
     // 24 bits: precedence 20 to 22 is there, of classification, 23 and 24, one bit is missing.
     tell(b"version 1, A cut to 3", b"\x01\x08\x00");
-    with_data(b"version 1, minute 59", versions::dated(59), 1);
-    with_data(b"version 1, minute 60", versions::dated(60), 1);
+    with_data(b"version 1, minute 59", versions::dated(7, 3, 59), 1);
+    with_data(b"version 1, minute 60", versions::dated(7, 3, 60), 1);
     with_data(b"version 1, every group", every_group(59), 1);
     with_data(b"version 1, every group, size 60", every_group(60), 1);
 }
@@ -414,6 +415,10 @@ fn main() {
     dates();
     times();
     minutes();
+    days::february();
+    days::months();
+    days::groups();
+    days::order();
     codes();
     old_octets_a();
     old_octets_b();

@@ -4,7 +4,7 @@ use crate::summary;
 use crate::summary::Summary;
 use libc::STDOUT_FILENO;
 
-fn print(text: &[u8]) {
+pub fn print(text: &[u8]) {
     io::write_all(STDOUT_FILENO, text);
 }
 

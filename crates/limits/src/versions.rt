@@ -13,11 +13,12 @@ fn opening(d: Draft, recurrence: u32, umf: u32) -> Draft
 
 // No compression, no address, no header size: the block begins at 9. G5 26, year 27 to 33, month 34 to 37, day 38 to
 // 42, hour 43 to 47, minute 48 to 53, second 54 to 59; extension 60, G6 to G10 61 to 65: it ends at 66, in 9 octets.
-pub fn dated(minute: u32) -> Draft
+pub fn dated(month: u32, day: u32, minute: u32) -> Draft
     ensures { λ r. ⌜ r .end .0 ≤ 2048 ⌝ }
 {
     let d = Draft::new().number(4, 1).absent(5);
-    handling(opening(d, 0, 2)).flag(1).stamp(minute).absent(5)
+    let d = handling(opening(d, 0, 2)).flag(1).date(96, month, day);
+    d.time(16, minute, 55).absent(6)
 }
 
 // G1 5, address 6 to 31; G2 32, recurrence 33, address 34 to 59; G3 60, recurrence 61, address 62 to 87; header size

@@ -2,6 +2,7 @@
 // with what came of it: `done` or `refused` with the number and, where the refusal is about one, the block; the
 // listing, or a row's octets. The file stdout has what each has to be, worked from the papers.
 mod block;
+mod days;
 mod effects;
 mod lists;
 mod play;
@@ -22,6 +23,10 @@ fn main() {
     refusals::versions();
     refusals::receipts();
     refusals::releases();
+    days::calls();
+    days::order();
+    days::tried();
+    days::stored();
     effects::codes();
     effects::code_two();
     effects::recipients();

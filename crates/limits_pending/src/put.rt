@@ -70,7 +70,7 @@ pub fn address(x: &mut [u8], a: Address)
     optional_text(&mut x[in_address::NAME..in_address::END], name);
 }
 
-fn date(x: &mut [u8], d: Date)
+pub fn date(x: &mut [u8], d: Date)
     requires { ⌜ length (now x) ≡ sizeOfDate ⌝ }
 {
     store_word(&mut x[in_date::YEAR..in_date::MONTH], d.year);

@@ -3,10 +3,12 @@ ghost use mathlib.Core.Path.{_≡_};
 ghost use Prim.Native.Nat.{_+_, _≤_};
 ghost use lib.ListN.{length};
 ghost use Rattle.table_octets.specs.Table.{sizeOfKey, sizeOfRecipient, sizeOfRow, sizeOfTable};
+use crate::put::date;
 use cells::clear;
 use cells::copy;
 use cells::move_up;
 use cells::store_word;
+use header::Date;
 use record_octets::in_address;
 use record_octets::in_dtg;
 use record_octets::in_optional_number;
@@ -59,8 +61,22 @@ fn wrong_minute(key: &mut [u8])
     store_word(&mut time[in_time::MINUTE..in_time::SECOND], 60);
 }
 
+// A key with the date that a number's last six digits tell, two each for year, month and day.
+fn other_date(key: &mut [u8], digits: u32)
+    requires { ⌜ length (now key) ≡ sizeOfKey ⌝ }
+{
+    let day = Date {
+        year: digits / 10000,
+        month: digits / 100 % 100,
+        day: digits % 100,
+    };
+    let stamp = &mut key[in_key::STAMP..in_key::END];
+    let dtg = &mut stamp[in_stamp::DTG..in_stamp::EXTENSION];
+    date(&mut dtg[in_dtg::DATE..in_dtg::TIME], day);
+}
+
 // Kinds 4 to 10: a row whose key, requests, count or order of recipients is wrong. A wrong address stands second,
-// where it keeps the order.
+// where it keeps the order. A kind over 100 is the date of the key, which need not be wrong.
 fn wrong_row(r: &mut [u8], kind: u32)
     requires { ⌜ length (now r) ≡ sizeOfRow ⌝ }
 {
@@ -82,6 +98,7 @@ fn wrong_row(r: &mut [u8], kind: u32)
         }
         16 => wrong_recipient(&mut r[second..second + in_row::ENTRY], kind),
         17 => wrong_recipient(&mut r[second..second + in_row::ENTRY], kind),
+        101..=999999 => other_date(&mut r[in_row::KEY..in_row::ASKED], kind),
         _ => wrong_recipient(&mut r[in_row::RECIPIENTS..second], kind),
     }
 }

@@ -1,14 +1,15 @@
 // Records at the limits of document 01, written. Each case is one line: its name; then `written` with the
 // octets of the header, whether the octets behind it are as they were, and the length that the reader tells
 // of it, or `refused` with the number and, where the refusal is about one, the block, and whether the output is
-// as it was. The file stdout has what each has to be, worked from the papers; the count of bits stands beside
-// the case.
+// as it was. A date's line has this for each of four groups, behind what the check says of the record. The file
+// stdout has what each has to be, worked from the papers; the count of bits stands beside the case.
 //
 // The counts begin with octets A, 33 bits: version 4; one for each of compression, G1, G2, G3 and the header
 // size, which are absent; and a block of 24: recurrence 1, UMF 4, standard version, G4, file name and message
 // size 1 each, the four codes 8, marking and G5 to G10 1 each.
 mod block;
 mod cases;
+mod days;
 mod flags;
 mod lengths;
 mod lists;
@@ -42,6 +43,9 @@ fn fields() {
     numbers::dates();
     numbers::times();
     numbers::other_times();
+    days::february();
+    days::months();
+    days::order();
     numbers::receipts();
     lists::forms();
     lists::forms_in_lists();

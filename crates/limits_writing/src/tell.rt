@@ -126,17 +126,15 @@ fn print_written(out: &[u8], size: usize, count: usize) {
     read_back(out, size, count);
 }
 
-// The writer's refusals have place 0; another one would show.
-fn print_refused(out: &[u8], fault: Fault, place: usize, block: BlockNumber) {
-    print(b": refused ");
+// The writer's refusals and the check's have place 0; another one would show.
+fn print_refused(fault: Fault, place: usize, block: BlockNumber) {
+    print(b" refused ");
     print_number(fault_number(fault) as u64);
     if place != 0 {
         print(b" at ");
         print_number(place as u64);
     }
     print_block(block);
-    print(b", output");
-    print_kept(out, 0);
 }
 
 fn print_answer(answer: Written, out: &[u8], count: usize, hex: bool) {
@@ -147,9 +145,13 @@ fn print_answer(answer: Written, out: &[u8], count: usize, hex: bool) {
                 print_octets(out, size.0);
             }
         }
-        Written::Refused(fault, at, block) => print_refused(out, fault, at.0, block),
+        Written::Refused(fault, at, block) => {
+            print(b":");
+            print_refused(fault, at.0, block);
+            print(b", output");
+            print_kept(out, 0);
+        }
     }
-    print(b"\n");
 }
 
 // The writer is lent only the first `room` octets.
@@ -160,11 +162,33 @@ fn write_first(h: &[u8; RECORD], count: usize, out: &mut [u8], room: usize) -> W
     writer::write(h, OctetSize(count), &mut out[..room])
 }
 
-// The line behind its name, with the header's octets if they are to be shown.
-pub fn line(h: &[u8; RECORD], count: usize, room: usize, hex: bool) {
+// A line behind its name and up to its end, with the header's octets if they are to be shown.
+fn print_writing(h: &[u8; RECORD], count: usize, room: usize, hex: bool) {
     let mut space = [0u8; WHOLE];
     let out: &mut [u8] = &mut space;
     fill(out);
     let answer = write_first(h, count, out, room);
     print_answer(answer, out, count, hex);
+}
+
+pub fn line(h: &[u8; RECORD], count: usize, room: usize, hex: bool) {
+    print_writing(h, count, room, hex);
+    print(b"\n");
+}
+
+fn print_check(answer: Written) {
+    match answer {
+        Written::Done(size) => {
+            print(b" checked ");
+            print_number(size.0 as u64);
+        }
+        Written::Refused(fault, at, block) => print_refused(fault, at.0, block),
+    }
+}
+
+// What the check says of a record, then what the writer does, without the end of the line.
+pub fn checked(h: &[u8; RECORD], count: usize) {
+    let answer = writer::check(h, OctetSize(count));
+    print_check(answer);
+    print_writing(h, count, WHOLE, false);
 }

@@ -20,7 +20,7 @@ use Rattle.optional.specs.Optionals.{optionalNumber}
 use Rattle.text.specs.Texts.{text, charsOf}
 use Rattle.text.specs.declared.Text.{Text}
 use Rattle.header.specs.Zero.{noNumber, noOptionalText, noAddress}
-use Rattle.header.specs.Table.{address, stamp, dtg, date, time, unitName}
+use Rattle.header.specs.Table.{address, stamp, dtg, date, dayIn, time, unitName}
 use Rattle.header.specs.declared.Address.{Address as DeclaredAddress}
 use Rattle.header.specs.declared.Requests.{Requests}
 use Rattle.header.specs.declared.Stamp.{Stamp}
@@ -119,7 +119,7 @@ address-image-legal a h = ap (address .check) (address-image a h) ∙ address-la
 
 -- a stamp whose extension is absent has none
 pub stamp-norm-is : (s : Stamp) → stamp .norm s ≡ record { dtg = s .dtg; extension = numberImage (optionOf (s .extension)) }
-unfolding optionOf stamp dtg date time optionalNumber viewed _thenBy_ flag present nothing number noNumber
+unfolding optionOf stamp dtg date dayIn time optionalNumber viewed _thenBy_ flag present nothing number noNumber
 stamp-norm-is s = go (s .extension .present) refl
   where
     go : (b : Bool) → s .extension .present ≡ b → stamp .norm s ≡ record { dtg = s .dtg; extension = numberImage (optionOf (s .extension)) }

@@ -1,4 +1,4 @@
--- Document 01's starred cases, and those of version 1. The records are written out field by field; a group that is absent has the zero value in its cells.
+-- Document 01's starred cases, those of version 1, and days that a month has or has not. The records are written out field by field; a group that is absent has the zero value in its cells.
 use Prim.Native.Nat.{ℕ}
 use mathlib.Core.Path.{_≡_}
 use mathlib.Core.Bool.{true, false}
@@ -15,8 +15,9 @@ use Rattle.header.specs.declared.Stamp.{Stamp}
 use Rattle.header.specs.declared.Header.{Header}
 use Rattle.reader.specs.Reading.{Reading, accepted, rejected, reading, userData}
 use Rattle.order.specs.Calls.{onTable}
+use Rattle.order.specs.declared.Key.{Key as DeclaredKey}
 use Rattle.calls.specs.Runs.{answers}
-use Rattle.arguments.specs.Arguments.{Arguments, posting, receiving, callOf}
+use Rattle.arguments.specs.Arguments.{Arguments, posting, receiving, releasing, callOf}
 use Rattle.history.specs.Sheet.{sheet}
 use Rattle.writer.specs.Writing as Writing
 use Rattle.writer.specs.Writing.{Writing, done, writing, outputAfter}
@@ -64,11 +65,11 @@ one a = record { list = a ∷ replicate 15 noAddress; count = 1 }
 abbrev plain : Codes
 plain = record { operation = 0; retransmit = 0; precedence = 0; classification = 0 }
 
--- 96-07-03 16:27:55, no extension
-abbrev july3 : Stamp
-july3 =
+-- 16:27:55 on a day, no extension
+abbrev on : ℕ → ℕ → ℕ → Stamp
+on year month day =
     record {
-      dtg = record { date = record { year = 96; month = 7; day = 3 }; time = record { hour = 16; minute = 27; second = 55 } };
+      dtg = record { date = record { year = year; month = month; day = day }; time = record { hour = 16; minute = 27; second = 55 } };
       extension = noNumber;
     }
 
@@ -115,9 +116,9 @@ recordA1 = unaddressed 1 (bare noNumber)
 abbrev standardA1 : Header
 standardA1 = unaddressed 1 (bare (record { present = true; value = 0 }))
 
--- B: URN 207 to URN 3, UMF 2, 96-07-03 16:27:55, machine request
-abbrev recordB : Header
-recordB =
+-- URN 207 to URN 3, UMF 2, a machine request
+abbrev messageOf : Stamp → Header
+messageOf stamp =
     record {
       front =
           record {
@@ -136,7 +137,7 @@ recordB =
                   handling = record { size = noNumber; codes = plain; marking = noOptionalText };
                   times =
                       record {
-                        origin = record { present = true; stamp = july3 };
+                        origin = record { present = true; stamp = stamp };
                         perish = record { present = false; dtg = noDtg };
                         requests = record { present = true; requests = record { machine = true; acknowledge = false; reply = false } };
                       };
@@ -148,9 +149,9 @@ recordB =
           };
     }
 
--- C: the receipt for B, from URN 3 to URN 207, R/C 1
-abbrev recordC : Header
-recordC =
+-- the receipt for such a message, from URN 3 to URN 207, R/C 1
+abbrev receiptFor : Stamp → Header
+receiptFor stamp =
     record {
       front =
           record {
@@ -176,7 +177,7 @@ recordC =
                   response =
                       record {
                         present = true;
-                        response = record { stamp = july3; compliance = record { code = 1; cantco = noNumber; cantpro = noNumber }; amplification = noOptionalText };
+                        response = record { stamp = stamp; compliance = record { code = 1; cantco = noNumber; cantpro = noNumber }; amplification = noOptionalText };
                       };
                   references = record { present = false; references = noReferences };
                 }
@@ -185,6 +186,17 @@ recordC =
           };
     }
 
+-- B and C: 96-07-03
+abbrev recordB : Header
+recordB = messageOf (on 96 7 3)
+
+abbrev recordC : Header
+recordC = receiptFor (on 96 7 3)
+
+-- the key of such a message
+abbrev keyOn : Stamp → DeclaredKey
+keyOn stamp = record { address = byUrn 207; stamp = stamp }
+
 abbrev octetsA : List ℕ
 octetsA = 0x02 ∷ 0x08 ∷ 0x00 ∷ 0x00 ∷ 0x00 ∷ []
 
@@ -192,8 +204,26 @@ octetsA = 0x02 ∷ 0x08 ∷ 0x00 ∷ 0x00 ∷ 0x00 ∷ []
 abbrev octetsA1 : List ℕ
 octetsA1 = 0x01 ∷ 0x08 ∷ 0x00 ∷ 0x00 ∷ []
 
+-- B's octets but for the three that hold its date: the year in bits 81 to 87, the month in 88 to 91, the day in 92 to 96
+abbrev octetsOn : ℕ → ℕ → ℕ → List ℕ
+octetsOn x y z = 0xE2 ∷ 0x67 ∷ 0x00 ∷ 0x00 ∷ 0x1D ∷ 0x00 ∷ 0x00 ∷ 0x00 ∷ 0x01 ∷ 0x00 ∷ x ∷ y ∷ z ∷ 0x76 ∷ 0x33 ∷ 0x00 ∷ []
+
 abbrev octetsB : List ℕ
-octetsB = 0xE2 ∷ 0x67 ∷ 0x00 ∷ 0x00 ∷ 0x1D ∷ 0x00 ∷ 0x00 ∷ 0x00 ∷ 0x01 ∷ 0x00 ∷ 0xC1 ∷ 0x37 ∷ 0xE0 ∷ 0x76 ∷ 0x33 ∷ 0x00 ∷ []
+octetsB = octetsOn 0xC1 0x37 0xE0
+
+-- June, month 6, with day 30; and with day 31, whose five bits are all 1
+abbrev june30 : List ℕ
+june30 = octetsOn 0xC1 0xE6 0xE1
+
+abbrev june31 : List ℕ
+june31 = octetsOn 0xC1 0xF6 0xE1
+
+-- 29 February of 96, and of 97, whose year has bit 81
+abbrev february96 : List ℕ
+february96 = octetsOn 0xC1 0xD2 0xE1
+
+abbrev february97 : List ℕ
+february97 = octetsOn 0xC3 0xD2 0xE1
 
 -- the 22 header octets of Table XVIII of the standard, which has a URN and a name in one address
 abbrev tableXVIII : List ℕ
@@ -226,9 +256,21 @@ cases =
     ∷ writtenAs recordA1 1 octetsA1
     ∷ writes standardA1 1 over (Writing.rejected 3 0 0) over
     ∷ refusedWith tableXVIII 6 31 0
+    -- B on 30 and 31 June, on 29 February of 96 and of 97, read; written on the two days that there are not; C for a day that there is not
+    ∷ acceptedAs (june30 ++ 0x01 ∷ []) (0x01 ∷ []) (messageOf (on 96 6 30)) 16
+    ∷ refusedWith (june31 ++ 0x01 ∷ []) 3 92 0
+    ∷ acceptedAs (february96 ++ 0x01 ∷ []) (0x01 ∷ []) (messageOf (on 96 2 29)) 16
+    ∷ refusedWith (february97 ++ 0x01 ∷ []) 3 92 0
+    ∷ writtenAs (messageOf (on 96 2 29)) 1 february96
+    ∷ writes (messageOf (on 96 6 31)) 1 over (Writing.rejected 3 0 0) over
+    ∷ writes (messageOf (on 97 2 29)) 1 over (Writing.rejected 3 0 0) over
+    ∷ writes (receiptFor (on 96 6 31)) 0 over (Writing.rejected 3 0 0) over
     -- A without data, whichever block is posted; C on the empty table; B twice; B and C twice
     ∷ plays (posting recordA 1 0 ∷ posting recordA 2 0 ∷ []) (inBlock 1 53 ∷ inBlock 1 53 ∷ [])
     ∷ plays (receiving recordC 1 0 ∷ []) (just 26 ∷ [])
     ∷ plays (posting recordB 1 1 ∷ posting recordB 1 1 ∷ []) (just 0 ∷ just 22 ∷ [])
     ∷ plays (posting recordB 1 1 ∷ receiving recordC 1 0 ∷ receiving recordC 1 0 ∷ []) (just 0 ∷ just 0 ∷ just 28 ∷ [])
+    -- 31 June posted, answered and released; 29 February of 96 posted and released
+    ∷ plays (posting (messageOf (on 96 6 31)) 1 1 ∷ receiving (receiptFor (on 96 6 31)) 1 0 ∷ releasing (keyOn (on 96 6 31)) ∷ []) (just 3 ∷ just 3 ∷ just 3 ∷ [])
+    ∷ plays (posting (messageOf (on 96 2 29)) 1 1 ∷ releasing (keyOn (on 97 2 29)) ∷ releasing (keyOn (on 96 2 29)) ∷ []) (just 0 ∷ just 3 ∷ just 0 ∷ [])
     ∷ []

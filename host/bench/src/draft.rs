@@ -29,9 +29,42 @@ pub fn address(random: &mut Random) -> Address {
     }
 }
 
+/// The last days of months of every length.
+const LAST_DAYS: [[u32; 3]; 8] = [
+    [0, 2, 29],
+    [1, 2, 28],
+    [96, 2, 29],
+    [99, 2, 28],
+    [4, 4, 30],
+    [97, 6, 30],
+    [99, 11, 30],
+    [99, 12, 31],
+];
+
+/// Days that their months do not have, and others do.
+const NO_DAYS: [[u32; 3]; 8] = [
+    [1, 2, 29],
+    [99, 2, 29],
+    [0, 2, 30],
+    [96, 2, 31],
+    [96, 4, 31],
+    [4, 6, 31],
+    [97, 9, 31],
+    [99, 11, 31],
+];
+
+fn one_of(list: &[[u32; 3]], random: &mut Random) -> Date {
+    let [year, month, day] = list[random.below(list.len())];
+    Date { year, month, day }
+}
+
+/// Mostly on one day, so that keys meet; else on a month's last.
 pub fn stamp(random: &mut Random) -> Stamp {
     let mut s = fast::NO_HEADER.blocks.list[0].times.origin.stamp;
     s.dtg = crate::samples::dtg(random.below(2) as u32, 55);
+    if random.once_in(4) {
+        s.dtg.date = one_of(&LAST_DAYS, random);
+    }
     if random.once_in(2) {
         s.extension = number(random.below(2) as u32);
     }
@@ -190,8 +223,8 @@ fn spoil_text(t: &mut Text, random: &mut Random, most: u32) {
     }
 }
 
-fn spoil_stamp(s: &mut Stamp, random: &mut Random) {
-    let (date, time) = (&mut s.dtg.date, &mut s.dtg.time);
+fn spoil_dtg(d: &mut Dtg, random: &mut Random) {
+    let (date, time) = (&mut d.date, &mut d.time);
     match random.below(8) {
         0 => date.year = off(random, 99),
         1 => date.month = off(random, 12),
@@ -199,8 +232,17 @@ fn spoil_stamp(s: &mut Stamp, random: &mut Random) {
         3 => time.hour = off(random, 23),
         4 => time.minute = off(random, 59),
         5 => time.second = off(random, 59),
-        6 => s.extension.value = off(random, 4095),
-        _ => s.extension.present = !s.extension.present,
+        // Whether there is that day hangs on the month.
+        6 => date.day = 28 + random.below(5) as u32,
+        _ => *date = one_of(&NO_DAYS, random),
+    }
+}
+
+fn spoil_stamp(s: &mut Stamp, random: &mut Random) {
+    match random.below(8) {
+        0 => s.extension.value = off(random, 4095),
+        1 => s.extension.present = !s.extension.present,
+        _ => spoil_dtg(&mut s.dtg, random),
     }
 }
 
@@ -234,19 +276,21 @@ fn spoil_message(b: &mut Block, random: &mut Random) {
 
 fn spoil_groups(b: &mut Block, random: &mut Random) {
     let response = &mut b.response.response;
-    match random.below(12) {
+    match random.below(14) {
         0 => b.times.origin.present = !b.times.origin.present,
         1 => spoil_stamp(&mut b.times.origin.stamp, random),
         2 => b.times.perish.present = !b.times.perish.present,
-        3 => b.times.requests.present = !b.times.requests.present,
-        4 => b.response.present = !b.response.present,
-        5 => spoil_stamp(&mut response.stamp, random),
-        6 => response.compliance.code = off(random, 6),
-        7 => response.compliance.cantco = number(off(random, 7)),
-        8 => response.compliance.cantpro = number(off(random, 63)),
-        9 => spoil_text(&mut response.amplification.text, random, 50),
-        10 => b.references.references.count = off(random, 4),
-        _ => spoil_address(&mut b.references.references.list[0].address, random),
+        3 => spoil_dtg(&mut b.times.perish.dtg, random),
+        4 => b.times.requests.present = !b.times.requests.present,
+        5 => b.response.present = !b.response.present,
+        6 => spoil_stamp(&mut response.stamp, random),
+        7 => response.compliance.code = off(random, 6),
+        8 => response.compliance.cantco = number(off(random, 7)),
+        9 => response.compliance.cantpro = number(off(random, 63)),
+        10 => spoil_text(&mut response.amplification.text, random, 50),
+        11 => b.references.references.count = off(random, 4),
+        12 => spoil_address(&mut b.references.references.list[0].address, random),
+        _ => spoil_stamp(&mut b.references.references.list[0].stamp, random),
     }
 }
 

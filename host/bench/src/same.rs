@@ -7,7 +7,7 @@ use crate::draft;
 use crate::fast;
 use crate::random::Random;
 use crate::samples::{self, Sample};
-use pruvelaccio::{Header, HeaderRead, Key, Refusal, Table};
+use pruvelaccio::{Date, Header, HeaderRead, Key, Refusal, Table};
 
 const RECORDS: usize = 4000;
 const BROKEN: usize = 2000;
@@ -22,6 +22,9 @@ const NUMBERS: [u32; 34] = [
 
 /// Those that tell a message block.
 const BLAMED: [u32; 11] = [41, 42, 43, 44, 45, 46, 47, 48, 49, 53, 54];
+
+/// Years that divide by four and years beside them, and two numbers that are no year.
+const YEARS: [u32; 10] = [0, 1, 2, 3, 4, 96, 97, 99, 100, 127];
 
 /// A posting or receipt with its arguments, or a release.
 pub enum Call<'a> {
@@ -181,6 +184,29 @@ fn longest(compared: &mut Compared) {
     let _ = compared.writing(&s.header, usize::MAX, 8192);
 }
 
+/// Every month and day of those, and numbers that are none.
+fn dates() -> impl Iterator<Item = Date> {
+    let days = |year, month| (0..34).map(move |day| Date { year, month, day });
+    YEARS.into_iter().flat_map(move |year| (0..18).flat_map(move |month| days(year, month)))
+}
+
+/// Each of them in a datagram, in a record, in a key and in a row.
+fn every_date(compared: &mut Compared) {
+    let (s, table) = (samples::typical(), samples::almost_empty());
+    let (mut header, mut key, mut held) = (s.header, samples::first_key(), table.clone());
+    for date in dates() {
+        header.blocks.list[0].times.origin.stamp.dtg.date = date;
+        key.stamp.dtg.date = date;
+        held.rows[0].key.stamp.dtg.date = date;
+        compared.reading(&samples::dated(&date));
+        let _ = compared.writing(&header, s.count, 8192);
+        compared.call(&table, &Call::Post(&header, 1, s.count));
+        compared.call(&table, &Call::Release(&key));
+        compared.call(&held, &Call::Release(&key));
+        compared.row(&held, 1, 4096);
+    }
+}
+
 /// A few bits flipped, the end cut off, or octets put behind.
 fn mutated(datagram: &[u8], random: &mut Random) -> Vec<u8> {
     let mut octets = datagram.to_vec();
@@ -272,6 +298,7 @@ pub fn run() {
         Compared { lent, filled, datagrams: 0, records: 0, calls: 0, met: Vec::new() };
     measured(&mut compared);
     longest(&mut compared);
+    every_date(&mut compared);
     (0..RECORDS).for_each(|_| random_record(&mut compared, &mut random));
     (0..TABLES).for_each(|_| random_table(&mut compared, &mut random));
     let table = samples::almost_empty();

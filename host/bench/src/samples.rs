@@ -71,6 +71,17 @@ fn record(octets: &[u8], data: usize) -> Header {
     header
 }
 
+/// B's datagram with another date, whether there is that one or not. Its 16 bits stand behind bit 80.
+pub fn dated(date: &Date) -> Vec<u8> {
+    let bits = (date.year & 127) << 1 | (date.month & 15) << 8 | (date.day & 31) << 12;
+    let mut datagram = B.to_vec();
+    datagram[10] = 1 | bits as u8;
+    datagram[11] = (bits >> 8) as u8;
+    datagram[12] = datagram[12] & 0xfe | (bits >> 16) as u8;
+    datagram.resize(B.len() + DATA, 0x5a);
+    datagram
+}
+
 pub fn small() -> Sample {
     Sample::new("small", &record(&C, 0), 0)
 }

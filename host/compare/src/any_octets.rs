@@ -143,7 +143,7 @@ pub fn instead(octet: u8, random: &mut Random) -> u8 {
         0 => random.next() as u8,
         1 => random.below(20) as u8,
         2 => octet ^ (1 << random.below(8)),
-        _ => *random.pick(&[0, 0, 1, 1, 2, 127, 128, 255]),
+        _ => *random.pick(&[0, 0, 1, 1, 2, 29, 30, 31, 127, 128, 255]),
     }
 }
 

@@ -3,6 +3,7 @@
 use reference::{Address, Block, Dtg, Header, Refusal, Stamp};
 
 use crate::between::{Blamed, RULES, SIZES};
+use crate::calendar::days_in;
 use crate::pairs::{self, BODIES};
 use crate::random::Random;
 use crate::records::{self, Case, Maker};
@@ -179,11 +180,35 @@ pub const BAD_DTGS: &[(&str, Change<Dtg>)] = &[
     ("month", |d, r| d.month = over(r, 13)),
     ("day 0", |d, _| d.day = 0),
     ("day", |d, r| d.day = over(r, 32)),
+    ("day 32", |d, _| d.day = 32),
     ("hour", |d, r| d.hour = over(r, 24)),
     ("minute", |d, r| d.minute = over(r, 60)),
     ("minute 75", |d, _| d.minute = 75),
     ("second", |d, r| d.second = over(r, 60)),
 ];
+
+/// A day that other months have, in a month that there is.
+pub const LATE_DAYS: &[(&str, Change<Dtg>)] = &[
+    ("29 February where there are 28", |d, r| {
+        (d.year, d.month, d.day) = (4 * r.below(25) + 1 + r.below(3), 2, 29);
+    }),
+    ("30 or 31 February", |d, r| (d.month, d.day) = (2, 30 + r.below(2))),
+    ("31 of a month of 30", |d, r| (d.month, d.day) = (*r.pick(&[4, 6, 9, 11]), 31)),
+    ("the day behind the last of a short month", |d, r| {
+        d.month = *r.pick(&[2, 4, 6, 9, 11]);
+        d.day = days_in(d.year, d.month) + 1;
+    }),
+];
+
+/// Puts such a day into the times that one of the blocks has of its own message and of the one that it answers.
+pub fn misdate(mut case: Case, random: &mut Random) -> Case {
+    let block = block(&mut case.record, random);
+    let answered = block.response.as_mut().map(|response| &mut response.stamp);
+    for stamp in block.stamp.iter_mut().chain(answered) {
+        random.pick(LATE_DAYS).1(&mut stamp.dtg, random);
+    }
+    case
+}
 
 /// Each with its refusal.
 pub const BAD_ADDRESSES: &[(&str, u32, Change<Address>)] = &[
@@ -231,7 +256,7 @@ fn add_numbers(list: &mut Vec<Damage>) {
 
 fn add_dtgs(list: &mut Vec<Damage>) {
     for (place, at) in DTGS {
-        for (name, change) in BAD_DTGS {
+        for (name, change) in BAD_DTGS.iter().chain(LATE_DAYS) {
             list.push(damage(format!("{place} {name}"), 3, |case, random| {
                 at(&mut case.record, random).map(|dtg| change(dtg, random)).is_some()
             }));

@@ -4,6 +4,7 @@ use pruvelaccio::raw::SizeAnswer;
 use pruvelaccio::RecordOctets;
 use reference::{Header, Refusal};
 
+use crate::calendar;
 use crate::cells::Cells;
 use crate::laid;
 use crate::library;
@@ -84,6 +85,7 @@ fn check_and_write(run: &mut Run, case: &Case) -> Result<Option<Vec<u8>>, String
     let plain = reference::check(&case.record, case.count);
     same_size("check", plain, library::check(&header, case.count as usize)?)?;
     run.tally.note(Kind::Check, &plain)?;
+    run.tally.note_days(Kind::Check, calendar::of_record(case, &plain));
     run.tally.record_versions.note(case.record.version, plain.is_ok());
     let standard = case.record.blocks.iter().any(|block| block.standard_version.is_some());
     run.tally.needless_standards += u64::from(case.record.version == 1 && standard);
@@ -112,6 +114,7 @@ fn compare_write(
     let plain = reference::write(&case.record, case.count, &mut other[lent.clone()]);
     let got = library::write(header, case.count as usize, &mut own[lent])?;
     run.tally.note(Kind::Write, &plain)?;
+    run.tally.note_days(Kind::Write, calendar::of_record(case, &plain));
     same_size("write", plain, got)?;
     same_octets("write", &other, &own)?;
     Ok(plain.ok().map(|length| own[GUARD..GUARD + length].to_vec()))
@@ -138,6 +141,7 @@ fn read_and_write(run: &mut Run, datagram: &[u8]) -> Result<Option<Header>, Stri
     let Ok((record, length)) = plain else { return Ok(None) };
 
     let case = Case { record, count: (datagram.len() - length) as u64 };
+    run.tally.note_days(Kind::Read, calendar::of_record(&case, &Ok::<(), Refusal>(())));
     let header = run.rubbish.header(&case, &mut run.random);
     let written = compare_write(run, &case, &header, length)?.unwrap_or_default();
     same_octets("written again", &datagram[..length], &written)?;

@@ -1,8 +1,10 @@
 //! Tables with one thing wrong in them: every call has to refuse them with 30 and leave them as they are.
 
+use std::cmp::Ordering;
+
 use reference::{Address, Board, Dtg, Recipient, Refusal, Row, Stamp};
 
-use crate::damage::{BAD_ADDRESSES, BAD_DTGS};
+use crate::damage::{BAD_ADDRESSES, BAD_DTGS, LATE_DAYS};
 use crate::listing;
 use crate::pool::{self, Pool};
 use crate::random::Random;
@@ -30,6 +32,13 @@ fn swap_neighbours<T>(list: &mut [T], random: &mut Random) -> bool {
     let i = random.index(list.len() - 1);
     list.swap(i, i + 1);
     true
+}
+
+/// A day that the month of a row's key does not have; the rows stay in order, so that nothing else is wrong.
+fn late_day(table: &mut Board, way: usize, random: &mut Random) -> bool {
+    LATE_DAYS[way].1(&mut row(table, random).key.stamp.dtg, random);
+    let order = |pair: &[Row]| reference::key_order(&pair[0].key, &pair[1].key);
+    table.rows.windows(2).all(|pair| order(pair) == Ordering::Less)
 }
 
 /// Rows behind the last one, in order, until there are so many: nothing but the count is wrong.
@@ -113,6 +122,10 @@ const SPOILS: &[(&str, Spoil)] = &[
         r.pick(BAD_DTGS).1(&mut row(t, r).key.stamp.dtg, r);
         true
     }),
+    ("29 February where there are 28 in a key", |t, r| late_day(t, 0, r)),
+    ("30 or 31 February in a key", |t, r| late_day(t, 1, r)),
+    ("31 of a month of 30 in a key", |t, r| late_day(t, 2, r)),
+    ("the day behind the last of a short month in a key", |t, r| late_day(t, 3, r)),
     ("illegal extension in a key", |t, r| {
         row(t, r).key.stamp.extension = Some(4096 << r.below(20));
         true

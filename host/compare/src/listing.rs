@@ -2,6 +2,7 @@
 
 use reference::Board;
 
+use crate::calendar;
 use crate::headers::{same_octets, same_size};
 use crate::library;
 use crate::run::{caught, Run};
@@ -46,6 +47,7 @@ fn list(run: &mut Run, pair: &Pair, number: u32, room: usize) -> Result<(), Stri
         library::same_struct_row(&pair.table, number, room)?;
     }
     run.tally.note(Kind::ListRow, &plain)?;
+    run.tally.note_days(Kind::ListRow, calendar::of_table(&pair.plain, &plain));
     same_size("list_row", plain, got)?;
     same_octets("list_row", &other, &own)
 }

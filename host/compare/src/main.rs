@@ -6,6 +6,7 @@
 mod any_octets;
 mod any_tables;
 mod between;
+mod calendar;
 mod cells;
 mod convert;
 mod damage;

@@ -7,6 +7,7 @@ use reference::{
     Address, Block, Board, Dtg, Header, Key, Recipient, Requests, Response, Row, Stamp,
 };
 
+use crate::calendar::days_in;
 use crate::random::Random;
 use crate::records::{self, bare_block, bare_header, Case, Maker};
 
@@ -49,13 +50,38 @@ impl Pool {
     }
 }
 
+/// Another year in which there is the same day; each fourth year has 29 February again.
+fn other_year(dtg: &Dtg) -> u32 {
+    let year = 99 - dtg.year;
+    if dtg.day <= days_in(year, dtg.month) {
+        year
+    } else {
+        (dtg.year + 4) % 100
+    }
+}
+
+/// Another month in which there is the same day: December, where June or February lacks the last of July or November.
+fn other_month(dtg: &Dtg) -> u32 {
+    let month = 13 - dtg.month;
+    if dtg.day <= days_in(dtg.year, month) {
+        month
+    } else {
+        12
+    }
+}
+
+/// Another day of the same month; the one in its middle stays.
+fn other_day(dtg: &Dtg) -> u32 {
+    days_in(dtg.year, dtg.month) + 1 - dtg.day
+}
+
 /// A stamp that differs from the base in one field at most, so that every field decides an order now and then.
 fn near(base: &Dtg, i: u32, random: &mut Random) -> Stamp {
     let mut dtg = base.clone();
     match i {
-        0 => dtg.year = 99 - dtg.year,
-        1 => dtg.month = 13 - dtg.month,
-        2 => dtg.day = 32 - dtg.day,
+        0 => dtg.year = other_year(base),
+        1 => dtg.month = other_month(base),
+        2 => dtg.day = other_day(base),
         3 => dtg.hour = 23 - dtg.hour,
         4 => dtg.minute = 59 - dtg.minute,
         5 => dtg.second = 59 - dtg.second,
@@ -70,8 +96,8 @@ pub fn nudge(key: &mut Key, pool: &Pool, random: &mut Random) {
     let dtg = &mut key.stamp.dtg;
     match random.below(6) {
         0 => key.address = pool.address(random),
-        1 => dtg.year = 99 - dtg.year,
-        2 => dtg.day = 32 - dtg.day,
+        1 => dtg.year = other_year(dtg),
+        2 => dtg.day = other_day(dtg),
         3 => dtg.second = 59 - dtg.second,
         4 if key.stamp.extension.is_some() => key.stamp.extension = None,
         _ => key.stamp.extension = Some(key.stamp.extension.map_or(0, |n| n ^ 1)),

@@ -6,6 +6,7 @@ use std::process::{Child, Command, Stdio};
 
 use reference::{Address, Key};
 
+use crate::damage::misdate;
 use crate::datagrams;
 use crate::emit::Extra;
 use crate::pool::{self, Pool};
@@ -122,6 +123,7 @@ fn line(pool: &Pool, sent: &mut Vec<Sent>, random: &mut Random) -> Vec<u8> {
     let case = match kind {
         0..=4 => answer(pool, sent, random),
         5 => records::case(random),
+        6 => misdate(pool::message(pool, random), random),
         _ => pool::message(pool, random),
     };
     remember(sent, &case);

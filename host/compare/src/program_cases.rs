@@ -72,6 +72,27 @@ fn versions() -> Vec<Named> {
     ]
 }
 
+/// B with another date: of its 16 bits the year's stand in the octet C1, behind a bit that is 1, the month's and four
+/// of the day's in 37, and the day's last is the lowest of E0.
+fn dates() -> Vec<Named> {
+    let dated = |octets: &str| format!("{}\n", B.replace("C137E0", octets));
+    let listed = |date: &str| OPEN.replace("96-07-03", date);
+    vec![
+        named("29 February 00", dated("01D2E1"), listed("00-02-29")),
+        named("29 February 96", dated("C1D2E1"), listed("96-02-29")),
+        named("28 February 99", dated("C7C2E1"), listed("99-02-28")),
+        named("30 June 96", dated("C1E6E1"), listed("96-06-30")),
+        named("31 December 99", dated("C7FCE1"), listed("99-12-31")),
+        named("29 February 01", dated("03D2E1"), NONE),
+        named("29 February 99", dated("C7D2E1"), NONE),
+        named("30 February 96", dated("C1E2E1"), NONE),
+        named("31 April 96", dated("C1F4E1"), NONE),
+        named("31 June 96", dated("C1F6E1"), NONE),
+        named("31 June 96 between B and C", format!("{B}\n{}{C}\n", dated("C1F6E1")), SETTLED),
+        named("31 of month 13", dated("C1FDE1"), NONE),
+    ]
+}
+
 fn lengths() -> Vec<Named> {
     let most = long_b(16_384);
     let over = long_b(16_386);
@@ -226,8 +247,10 @@ fn several() -> Named {
 }
 
 pub fn compare_named(run: &mut Run) -> Result<(), String> {
-    let mut list: Vec<Named> =
-        [digits(), versions(), lengths(), ends(), borders()].into_iter().flatten().collect();
+    let mut list: Vec<Named> = [digits(), versions(), dates(), lengths(), ends(), borders()]
+        .into_iter()
+        .flatten()
+        .collect();
     list.extend([names(), keys(), full(), several()]);
     for case in &list {
         let compared = program::compare(run, &case.input, Some(&case.output));

@@ -5,6 +5,7 @@ use reference::{
     MAX_AMPLIFICATION, MAX_BLOCKS, MAX_FILE_NAME, MAX_MARKING, MAX_REFERENCES, MAX_UNIT_NAME,
 };
 
+use crate::calendar::days_in;
 use crate::random::Random;
 
 /// A record and the octets of user data that go with it.
@@ -126,11 +127,37 @@ impl Maker<'_> {
         }
     }
 
+    /// Any year, and every other time one that divides by four or stands beside such a one.
+    fn year(&mut self) -> u32 {
+        match self.random.coin() {
+            true => *self.random.pick(&[0, 1, 4, 96, 99]),
+            false => self.random.below(100),
+        }
+    }
+
+    /// Often February.
+    fn month(&mut self) -> u32 {
+        match self.random.below(3) {
+            0 => 2,
+            _ => 1 + self.number(12),
+        }
+    }
+
+    /// A day that the month has, every other time its last.
+    fn day(&mut self, year: u32, month: u32) -> u32 {
+        let last = days_in(year, month);
+        match self.random.coin() {
+            true => last,
+            false => 1 + self.number(last),
+        }
+    }
+
     pub fn dtg(&mut self) -> Dtg {
+        let (year, month) = (self.year(), self.month());
         Dtg {
-            year: self.number(100),
-            month: 1 + self.number(12),
-            day: 1 + self.number(31),
+            year,
+            month,
+            day: self.day(year, month),
             hour: self.number(24),
             minute: self.number(60),
             second: self.number(60),

@@ -5,6 +5,7 @@ use std::panic::{catch_unwind, AssertUnwindSafe};
 
 use pruvelaccio::{Header, KeyOctets, RecordOctets, Table, TableOctets, KEY, RECORD, TABLE};
 
+use crate::calendar;
 use crate::cells::Places;
 use crate::damage::{self, Damage};
 use crate::datagrams;
@@ -19,7 +20,7 @@ use crate::records::{self, Case};
 use crate::rubbish::Rubbish;
 use crate::table_octets;
 use crate::tables;
-use crate::tally::Tally;
+use crate::tally::{Kind, Tally};
 
 /// A panic of either program is a difference like others, so that its input is told.
 pub fn caught<T>(work: impl FnOnce() -> Result<T, String>) -> Result<T, String> {
@@ -188,7 +189,11 @@ impl Run {
             ));
         }
         let datagram = datagrams::of_record(&case, Extra::default(), &mut self.random);
-        compare_datagram(self, &datagram)?;
+        if compare_datagram(self, &datagram)?.is_none() {
+            // The datagram has the record's one fault and no other.
+            let days = calendar::of_record(&case, &reference::read(&datagram));
+            self.tally.note_days(Kind::Read, days);
+        }
         Ok(())
     }
 

@@ -238,8 +238,10 @@ fn counts() -> Vec<Tried> {
 #[cfg(test)]
 mod tests {
     use super::*;
+    use crate::calendar::{self, Days};
     use crate::cells::{Cell, Cells, Places};
     use crate::convert;
+    use crate::damage::LATE_DAYS;
     use crate::tally::LEAST;
     use pruvelaccio::{KeyOctets, Table};
 
@@ -398,6 +400,55 @@ mod tests {
                 assert_eq!(plain, Err(refusal), "{}: {case:?}", damage.name);
             }
         }
+    }
+
+    #[test]
+    fn days_of_every_month() {
+        let year = |year| (1..=12).map(|month| calendar::days_in(year, month)).collect::<Vec<_>>();
+        assert_eq!(year(1), [31, 28, 31, 30, 31, 30, 31, 31, 30, 31, 30, 31]);
+        let leap = (0..100).filter(|year| calendar::days_in(*year, 2) == 29);
+        assert_eq!(leap.collect::<Vec<_>>(), (0..25).map(|i| 4 * i).collect::<Vec<_>>());
+    }
+
+    /// A day that only its month forbids is told from all other faults.
+    #[test]
+    fn late_days_are_found() {
+        let mut random = Random::new(7);
+        for damage in crate::damage::all() {
+            let late = LATE_DAYS.iter().any(|(name, _)| damage.name.ends_with(name));
+            let (case, refusal) = damage.case(&mut random);
+            let found = calendar::of_record(&case, &Err::<(), Refusal>(refusal));
+            assert_eq!(matches!(found, Some(Days::Late)), late, "{}: {case:?}", damage.name);
+        }
+    }
+
+    /// Keys beside a legal one are legal: no release refuses them with 3.
+    #[test]
+    fn nudged_keys_are_legal() {
+        let mut random = Random::new(8);
+        for _ in 0..2000 {
+            let pool = Pool::new(&mut random);
+            let mut key = pool.key(&mut random);
+            pool::nudge(&mut key, &pool, &mut random);
+            assert_eq!(reference::release(&mut Board::new(), &key), Err(Refusal::new(26)));
+        }
+    }
+
+    /// Days are counted call by call.
+    #[test]
+    fn late_days_are_demanded() {
+        let mut tally = Tally::new();
+        for _ in 0..LEAST {
+            tally.note_days(Kind::Post, Some(Days::Late));
+            tally.note_days(Kind::Release, Some(Days::LateRow));
+            tally.note_days(Kind::Read, Some(Days::Leap));
+            tally.note_days(Kind::Check, None);
+        }
+        let lacks = |words: &str| tally.lacking().iter().any(|line| line.starts_with(words));
+        assert!(lacks("check a day") && lacks("read a day") && !lacks("post a day"));
+        assert!(lacks("post such a day") && !lacks("release such a day"));
+        assert!(lacks("check done with") && !lacks("read done with"));
+        assert!(lacks("list_row such a day") && !lacks("list_row a day"));
     }
 
     /// A number that came up for the first block alone is still lacking.

@@ -4,7 +4,8 @@ use pruvelaccio::raw::Answer;
 use pruvelaccio::{Header, Refusal, Table, TableOctets};
 use reference::{Board, Key};
 
-use crate::damage::{BAD_ADDRESSES, BAD_DTGS};
+use crate::calendar;
+use crate::damage::{misdate, BAD_ADDRESSES, BAD_DTGS, LATE_DAYS};
 use crate::images;
 use crate::laid;
 use crate::library;
@@ -153,6 +154,8 @@ fn enter(
         library::same_struct(call.name, &before, (got, table), whole)?;
     }
     run.tally.note(call.kind, &told)?;
+    run.tally.note_days(call.kind, calendar::of_table(plain, &told));
+    run.tally.note_days(call.kind, calendar::of_record(case, &told));
     Ok((told, got))
 }
 
@@ -171,6 +174,8 @@ fn take_out(
         library::same_struct("release", &before, (got, table), whole)?;
     }
     run.tally.note(Kind::Release, &told)?;
+    run.tally.note_days(Kind::Release, calendar::of_table(plain, &told));
+    run.tally.note_days(Kind::Release, calendar::of_key(plain, from, &told));
     Ok((told, got))
 }
 
@@ -236,17 +241,19 @@ pub fn key(pool: &Pool, plain: &Board, random: &mut Random) -> Key {
     }
     // Sometimes wrong twice, so that the order of the checks shows.
     for _ in 0..1 + random.below(2) {
-        match random.below(8) {
+        match random.below(10) {
             0 => random.pick(BAD_ADDRESSES).2(&mut key.address, random),
             1 => random.pick(BAD_DTGS).1(&mut key.stamp.dtg, random),
-            2 => key.stamp.extension = Some(4096 + random.below(100)),
+            2 => random.pick(LATE_DAYS).1(&mut key.stamp.dtg, random),
+            3 => key.stamp.extension = Some(4096 + random.below(100)),
             _ => {}
         }
     }
     key
 }
 
-/// The record of a posting or a receipt: made of the pool, any valid one, a damaged one, or one that breaks a rule.
+/// The record of a posting or a receipt: made of the pool, any valid one, a damaged one, one that breaks a rule, or one
+/// with a day that there is not.
 pub fn record(run: &mut Run, pool: &Pool, plain: &Board, posting: bool) -> Case {
     let random = &mut run.random;
     match random.below(24) {
@@ -256,6 +263,8 @@ pub fn record(run: &mut Run, pool: &Pool, plain: &Board, posting: bool) -> Case 
         // The other kind of message: 20 for a posting, 24 for a receipt.
         7 if posting => receipt(pool, plain, random),
         7 => pool::message(pool, random),
+        8 if posting => misdate(pool::message(pool, random), random),
+        8 => misdate(receipt(pool, plain, random), random),
         _ if posting => pool::message(pool, random),
         _ => receipt(pool, plain, random),
     }

@@ -4,6 +4,8 @@ use std::ops::Range;
 
 use reference::Refusal;
 
+use crate::calendar::Days;
+
 /// The calls of the product that can be refused.
 #[derive(Clone, Copy)]
 pub enum Kind {
@@ -65,6 +67,18 @@ const KINDS: [(&str, Parts); 15] = [
 const NUMBERS: [u32; 35] = [
     0, 1, 2, 3, 4, 5, 6, 7, 9, 11, 12, 20, 21, 22, 23, 24, 25, 26, 27, 28, 29, 30, 41, 42, 43, 44,
     45, 46, 47, 48, 49, 51, 52, 53, 54,
+];
+
+/// The calls that take a record or a key, and those that take a table.
+const DATED: &[Kind] =
+    &[Kind::Read, Kind::Check, Kind::Write, Kind::Post, Kind::Receipt, Kind::Release];
+const TABLED: &[Kind] = &[Kind::Post, Kind::Receipt, Kind::Release, Kind::ListRow];
+
+/// What answers have to say about days that hang on their month, in the order of `Days`, and of which calls.
+const DAYS: [(&str, &[Kind]); 3] = [
+    ("a day that only its month forbids, refused with 3", DATED),
+    ("such a day in a row, refused with 30", TABLED),
+    ("done with a 29 February", DATED),
 ];
 
 /// 0 stands for done, which every call can be.
@@ -176,6 +190,7 @@ type Seen = [Blocks; 55];
 
 pub struct Tally {
     seen: [Seen; KINDS.len()],
+    days: [[u64; KINDS.len()]; DAYS.len()],
     /// Of the records that were checked, and of the datagrams that were read.
     pub record_versions: Versions,
     pub datagram_versions: Versions,
@@ -199,6 +214,7 @@ impl Tally {
         let (record_versions, datagram_versions) = (Versions::default(), Versions::default());
         Tally {
             seen,
+            days: [[0; KINDS.len()]; DAYS.len()],
             record_versions,
             datagram_versions,
             needless_standards: 0,
@@ -216,6 +232,8 @@ impl Tally {
     pub fn add(&mut self, other: &Tally) {
         let sums = self.seen.iter_mut().flatten().flatten();
         sums.zip(other.seen.iter().flatten().flatten()).for_each(|(sum, n)| *sum += n);
+        let sums = self.days.iter_mut().flatten();
+        sums.zip(other.days.iter().flatten()).for_each(|(sum, n)| *sum += n);
         self.record_versions.add(&other.record_versions);
         self.datagram_versions.add(&other.datagram_versions);
         self.needless_standards += other.needless_standards;
@@ -247,6 +265,11 @@ impl Tally {
         Ok(())
     }
 
+    /// Notes what an answer says about days that hang on their month.
+    pub fn note_days(&mut self, kind: Kind, days: Option<Days>) {
+        days.into_iter().for_each(|days| self.days[days as usize][kind as usize] += 1);
+    }
+
     /// The calls on records and on tables as octets behind the others, in tables of their own.
     pub fn print(&self) {
         let (records, tables) = (Kind::OctetsCheck as usize, Kind::TablePost as usize);
@@ -255,6 +278,7 @@ impl Tally {
             println!("{:<12}{}{:>wide$}", "refusal", names.collect::<String>(), "all");
             lines().iter().for_each(|line| self.print_line(line, kinds.clone(), wide));
         }
+        self.print_days();
         self.record_versions.print("records");
         self.datagram_versions.print("datagrams");
         println!("records of version 1 with a standard version: {}", self.needless_standards);
@@ -270,6 +294,28 @@ impl Tally {
             text += &format!("{cell:>wide$}");
         }
         println!("{text}{all:>wide$}");
+    }
+
+    /// The calls of one of `DAYS`, each by its name and with its count.
+    fn days_by_call(&self, which: usize) -> impl Iterator<Item = (&str, u64)> {
+        let counts = &self.days[which];
+        DAYS[which].1.iter().map(|kind| (KINDS[*kind as usize].0, counts[*kind as usize]))
+    }
+
+    fn print_days(&self) {
+        for (which, (what, _)) in DAYS.iter().enumerate() {
+            let counts = self.days_by_call(which).map(|(name, count)| format!("{name} {count}"));
+            println!("{what}: {}", counts.collect::<Vec<_>>().join(", "));
+        }
+    }
+
+    fn lacking_days(&self) -> Vec<String> {
+        let mut lacking = Vec::new();
+        for (which, (what, _)) in DAYS.iter().enumerate() {
+            let seldom = self.days_by_call(which).filter(|(_, count)| *count < LEAST);
+            lacking.extend(seldom.map(|(name, count)| format!("{name} {what}: {count} times")));
+        }
+        lacking
     }
 
     /// Done and every refusal that came up too seldom, call by call; and those that seldom told a block behind the
@@ -290,6 +336,7 @@ impl Tally {
         if self.needless_standards < LEAST {
             lacking.push("records of version 1 with a standard version".to_string());
         }
+        lacking.extend(self.lacking_days());
         lacking
     }
 }

@@ -70,11 +70,17 @@ pub struct Front {
     pub information: OptionalAddresses,
 }
 
+/// A day that its month has: April, June, September and November have 30, February has 29 in a year that divides by
+/// four and 28 in any other, the rest have 31. A record or a key with another day is refused with 3, a table with one
+/// in a row with 30.
 #[repr(C)]
 #[derive(Clone, Copy, Debug)]
 pub struct Date {
+    /// Its last two digits, 0 to 99; 0 is 2000
     pub year: u32,
+    /// 1 to 12
     pub month: u32,
+    /// From 1 on
     pub day: u32,
 }
 

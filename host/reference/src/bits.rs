@@ -56,7 +56,7 @@ impl<'a> BitReader<'a> {
     pub fn code(
         &mut self,
         width: usize,
-        legal: fn(u32) -> bool,
+        legal: impl Fn(u32) -> bool,
         number: u32,
     ) -> Result<u32, Refusal> {
         let start = self.place;

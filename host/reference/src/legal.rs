@@ -56,9 +56,30 @@ pub fn legal_month(value: u32) -> bool {
     value >= 1 && value <= 12
 }
 
-/// The day is not compared with the month: 31 February is legal.
-pub fn legal_day(value: u32) -> bool {
-    value >= 1 && value <= 31
+/// How long the months are, January first, without and with a leap day.
+const COMMON_YEAR: [u32; 12] = [31, 28, 31, 30, 31, 30, 31, 31, 30, 31, 30, 31];
+const LEAP_YEAR: [u32; 12] = [31, 29, 31, 30, 31, 30, 31, 31, 30, 31, 30, 31];
+
+/// The century is not sent, and is not needed: a hundred is itself a multiple
+/// of four, and the only year of even hundreds that can be meant is 2000, which
+/// had its leap day.
+fn leap_year(year: u32) -> bool {
+    year % 4 == 0
+}
+
+/// The last day of a month. A month that is none has no days, so its last is 0.
+fn last_day(year: u32, month: u32) -> u32 {
+    if !legal_month(month) {
+        return 0;
+    }
+    let lengths = if leap_year(year) { LEAP_YEAR } else { COMMON_YEAR };
+    lengths[month as usize - 1]
+}
+
+/// A day is never judged by itself: how far it may go is up to its month, and
+/// in February to the year as well.
+pub fn legal_day(year: u32, month: u32, day: u32) -> bool {
+    day >= 1 && day <= last_day(year, month)
 }
 
 pub fn legal_hour(value: u32) -> bool {

@@ -160,11 +160,12 @@ fn read_address(r: &mut BitReader) -> Result<Address, Refusal> {
     Ok(Address { urn, name })
 }
 
-/// Six fields, each judged as soon as it is read.
+/// Six fields, each judged as soon as it is read. A wrong year or month is thus
+/// refused at its own place, and the day is measured against right ones only.
 fn read_dtg(r: &mut BitReader) -> Result<Dtg, Refusal> {
     let year = r.code(7, legal_year, 3)?;
     let month = r.code(4, legal_month, 3)?;
-    let day = r.code(5, legal_day, 3)?;
+    let day = r.code(5, |day| legal_day(year, month, day), 3)?;
     let hour = r.code(5, legal_hour, 3)?;
     let minute = r.code(6, legal_minute, 3)?;
     let second = r.code(6, legal_second, 3)?;

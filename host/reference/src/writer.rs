@@ -83,7 +83,7 @@ fn check_length(own: usize, together: usize, maximum: usize) -> Result<(), Refus
     Ok(())
 }
 
-fn check_code(value: u32, legal: fn(u32) -> bool) -> Result<(), Refusal> {
+fn check_code(value: u32, legal: impl Fn(u32) -> bool) -> Result<(), Refusal> {
     if !legal(value) {
         return Err(Refusal::new(3));
     }
@@ -138,7 +138,7 @@ pub fn check_address(a: &Address) -> Result<(), Refusal> {
 fn check_dtg(d: &Dtg) -> Result<(), Refusal> {
     check_code(d.year, legal_year)?;
     check_code(d.month, legal_month)?;
-    check_code(d.day, legal_day)?;
+    check_code(d.day, |day| legal_day(d.year, d.month, day))?;
     check_code(d.hour, legal_hour)?;
     check_code(d.minute, legal_minute)?;
     check_code(d.second, legal_second)

@@ -1,5 +1,6 @@
 //! Fields off a datagram, with what a reading refuses of them.
 
+use super::calendar::days_in;
 use super::refusals::at;
 use super::way::Way;
 use pruvelaccio::{Date, Dtg, OptionalNumber, OptionalText, Refusal, Stamp, Text, Time};
@@ -11,9 +12,8 @@ pub struct BitsIn<'a, W> {
     place: usize,
 }
 
-/// Width, least and largest value of the fields of a DTG.
-const DTG_FIELDS: [(usize, u32, u32); 6] =
-    [(7, 0, 99), (4, 1, 12), (5, 1, 31), (5, 0, 23), (6, 0, 59), (6, 0, 59)];
+/// Width and largest value of the hour, the minute and the second.
+const TIME_FIELDS: [(usize, u32); 3] = [(5, 23), (6, 59), (6, 59)];
 
 impl<'a, W: Way> BitsIn<'a, W> {
     pub fn new(way: W, octets: &'a [u8]) -> BitsIn<'a, W> {
@@ -114,10 +114,14 @@ impl<'a, W: Way> BitsIn<'a, W> {
         Ok(())
     }
 
+    /// The days that there are hang on the year and the month, which have been judged before them.
     #[cold]
     fn dtg_by_fields(&mut self) -> Result<(), Refusal> {
-        for (width, least, most) in DTG_FIELDS {
-            self.code(width, least, most, 3)?;
+        let year = self.code(7, 0, 99, 3)?;
+        let month = self.code(4, 1, 12, 3)?;
+        self.code(5, 1, days_in(year, month), 3)?;
+        for (width, most) in TIME_FIELDS {
+            self.code(width, 0, most, 3)?;
         }
         Ok(())
     }

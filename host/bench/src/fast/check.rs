@@ -1,6 +1,7 @@
 //! The writer's checks in field order. Each says the bits that its part will take, so that the header's length comes
 //! out of the same pass; or the number of the refusal, which tells no block.
 
+use super::calendar::days_in;
 use super::limits::*;
 use super::refusals::only;
 use super::rules;
@@ -113,7 +114,7 @@ pub fn dtg_legal(d: &Dtg) -> bool {
     // Every field is looked at, without a branch for each.
     (date.year <= 99)
         & (date.month.wrapping_sub(1) < 12)
-        & (date.day.wrapping_sub(1) < 31)
+        & (date.day.wrapping_sub(1) < days_in(date.year, date.month))
         & (time.hour <= 23)
         & (time.minute <= 59)
         & (time.second <= 59)

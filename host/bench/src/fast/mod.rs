@@ -8,6 +8,7 @@ mod bits_in;
 mod bits_out;
 pub mod by_value;
 pub mod by_words;
+mod calendar;
 mod check;
 mod fragments;
 mod limits;

@@ -337,6 +337,9 @@ fn release_with_an_illegal_key() {
     assert_eq!(release(&mut board, &k(urn(1), extended(4096))), Err(only(3)));
     let bad = Stamp { dtg: Dtg { minute: 60, ..dtg() }, extension: None };
     assert_eq!(release(&mut board, &k(urn(1), bad)), Err(only(3)));
+    let mut bad = stamp();
+    (bad.dtg.month, bad.dtg.day) = (6, 31);
+    assert_eq!(release(&mut board, &k(urn(1), bad)), Err(only(3)));
     assert_eq!(release(&mut board, &k(urn(1), extended(4095))), Err(only(26)));
 }
 
@@ -376,6 +379,10 @@ fn boards_that_are_not_well_formed() {
     bad.push(b);
     let mut b = good.clone();
     b.rows[0].key.stamp.dtg.month = 0;
+    bad.push(b);
+    let mut b = good.clone();
+    b.rows[0].key.stamp.dtg.month = 6;
+    b.rows[0].key.stamp.dtg.day = 31;
     bad.push(b);
     // Nothing asked.
     bad.push(one_row(requests(false, false, false), vec![recipient(urn(3), 0, 0, 0)]));

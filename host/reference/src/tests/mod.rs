@@ -2,6 +2,7 @@
 
 mod board;
 mod by_hand;
+mod calendar;
 mod listing;
 mod program;
 mod random;

@@ -53,11 +53,16 @@ impl Dice {
         }
     }
 
+    /// Often the last day of its month, where a mistake would show.
     fn dtg(&mut self) -> Dtg {
+        let year = self.below(100);
+        let month = 1 + self.below(12);
+        let last = calendar::last_day(year, month);
+        let day = if self.coin() { last } else { 1 + self.below(last) };
         Dtg {
-            year: self.below(100),
-            month: 1 + self.below(12),
-            day: 1 + self.below(31),
+            year,
+            month,
+            day,
             hour: self.below(24),
             minute: self.below(60),
             second: self.below(60),
@@ -262,6 +267,69 @@ fn assert_points_right(refusal: Refusal, end: usize) {
         51 | 52 => assert_eq!(refusal, only(refusal.number)),
         number => panic!("refusal {number}"),
     }
+}
+
+/// All times of a record, from the left.
+fn times(h: &mut Header) -> Vec<&mut Dtg> {
+    let mut all = Vec::new();
+    for b in &mut h.blocks {
+        if let Some(s) = &mut b.stamp {
+            all.push(&mut s.dtg);
+        }
+        if let Some(d) = &mut b.perishable {
+            all.push(d);
+        }
+        if let Some(r) = &mut b.response {
+            all.push(&mut r.stamp.dtg);
+        }
+        for reference in b.references.iter_mut().flatten() {
+            all.push(&mut reference.stamp.dtg);
+        }
+    }
+    all
+}
+
+/// Where the day of one of them stands: at the first bit that differs when the
+/// day has all its bits zero and when it has them all set.
+fn place_of_day(h: &Header, which: usize) -> usize {
+    let octets_with = |day: u32| {
+        let mut h = h.clone();
+        times(&mut h)[which].day = day;
+        by_hand::header_octets(&h)
+    };
+    let (zeros, ones) = (octets_with(0), octets_with(31));
+    let differs = |k: &usize| bit_at(&zeros, *k) != bit_at(&ones, *k);
+    (0..zeros.len() * 8).find(differs).unwrap()
+}
+
+#[test]
+fn any_day_anywhere_in_a_record() {
+    let mut dice = Dice(8);
+    let mut seen = [0u32; 2];
+    for turn in 0..3000 {
+        let (mut h, count) = dice.record(version_of(turn));
+        let many = times(&mut h).len() as u32;
+        if many == 0 {
+            continue;
+        }
+        let which = dice.below(many) as usize;
+        let d = &mut times(&mut h)[which];
+        // Few days, so that the ends of the months come up often.
+        d.day = (27 + dice.below(6)) % 32;
+        let legal = d.day >= 1 && d.day <= calendar::last_day(d.year, d.month);
+        seen[legal as usize] += 1;
+
+        let octets = by_hand::header_octets(&h);
+        let datagram = with_data(&octets, &vec![0; count as usize]);
+        if legal {
+            assert_eq!(check(&h, count), Ok(octets.len()));
+            assert_eq!(read(&datagram), Ok((h, octets.len())));
+        } else {
+            assert_eq!(check(&h, count), Err(only(3)));
+            assert_eq!(read(&datagram), Err(at(3, place_of_day(&h, which))));
+        }
+    }
+    assert!(seen[0] > 500 && seen[1] > 500, "{seen:?}");
 }
 
 #[test]

@@ -140,8 +140,11 @@ fn dates() {
     assert_eq!(with(|d| d.month = 0), Err(only(3)));
     assert_eq!(with(|d| d.month = 13), Err(only(3)));
     assert_eq!(with(|d| d.day = 0), Err(only(3)));
-    assert!(with(|d| { d.month = 2; d.day = 31 }).is_ok());
+    // July, as the helper has it, goes up to 31; other months do not.
+    assert!(with(|d| d.day = 31).is_ok());
     assert_eq!(with(|d| d.day = 32), Err(only(3)));
+    assert_eq!(with(|d| (d.month, d.day) = (2, 31)), Err(only(3)));
+    assert_eq!(with(|d| (d.month, d.day) = (6, 31)), Err(only(3)));
     assert!(with(|d| d.hour = 23).is_ok());
     assert_eq!(with(|d| d.hour = 24), Err(only(3)));
     assert!(with(|d| d.minute = 59).is_ok());

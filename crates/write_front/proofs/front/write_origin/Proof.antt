@@ -20,7 +20,7 @@ write-originator-requires c κs = search needs
 
 returns : tie.Need-returns
 unfolding frontIn
-returns c = let v = number-writes _ _ _ _ 2 _ _ _ _ _ (c .before .before .before .before .before .before .before .before .before .before .before .before .write-word .ensures) in search writing depth 12
+returns c = let v = number-writes _ _ _ _ 1 2 2 _ _ _ _ _ (c .before .before .before .before .before .before .before .before .before .before .before .before .write-word .ensures) in search writing depth 12
 
 pub write-origin-spec : {M : Type 1} → statement M
 write-origin-spec = tie.close (tie.spec (λ c. search needs) (λ c. search needs) (λ c. search needs) write-word-requires (λ c. search needs) (λ c. search needs) (λ c. search needs) write-optional-requires (λ c. search needs) (λ c. search needs) (λ c. search needs) write-originator-requires (λ c. search needs) returns)
