@@ -1,8 +1,9 @@
 -- Document 01's starred cases, those of version 1, and days that a month has or has not. The records are written out field by field; a group that is absent has the zero value in its cells.
 use Prim.Native.Nat.{ℕ}
 use mathlib.Core.Path.{_≡_}
-use mathlib.Core.Bool.{true, false}
+use mathlib.Core.Bool.{Bool, true, false}
 use mathlib.Core.List.{List, [], _∷_, _++_}
+use mathlib.Core.Option.{Option, some, none}
 use lib.ListN.{length, drop, replicate}
 use Rattle.codec.specs.Verdict.{Verdict, inBlock, plain as just}
 use Rattle.header.specs.Zero.{noNumber, noOptionalText, noAddress, noAddresses, noDtg, noStamp, noIdentity, noRequests, noResponse, noReferences, noBlock}
@@ -15,25 +16,34 @@ use Rattle.header.specs.declared.Stamp.{Stamp}
 use Rattle.header.specs.declared.Header.{Header}
 use Rattle.reader.specs.Reading.{Reading, accepted, rejected, reading, userData}
 use Rattle.order.specs.Calls.{onTable}
+use Rattle.order.specs.Values.{Key, keyOf}
 use Rattle.order.specs.declared.Key.{Key as DeclaredKey}
+use Rattle.table.specs.WellFormed.{wellFormed}
+use Rattle.table.specs.Zero.{noRecipient, noRow}
+use Rattle.table.specs.declared.Table.{Table}
 use Rattle.calls.specs.Runs.{answers}
-use Rattle.arguments.specs.Arguments.{Arguments, posting, receiving, releasing, callOf}
+use Rattle.arguments.specs.Arguments.{Arguments, posting, receiving, releasing, callOf, message}
 use Rattle.history.specs.Sheet.{sheet}
 use Rattle.writer.specs.Writing as Writing
 use Rattle.writer.specs.Writing.{Writing, done, writing, outputAfter}
 
 -- a datagram, what reading it gives, and the user data behind its header; or a record with a count of user data and an output, what writing it gives, and the
--- output afterwards; or calls on the table of pending messages, the first on an empty one, and their answers
+-- output afterwards; or calls on the table of pending messages, the first on an empty one, and their answers; or a call, and the key of the message that it is
+-- about, if it names one; or a table, and whether it is well formed
 pub data Case : Type 0 where
   reads : List ℕ → Reading → List ℕ → Case
   writes : Header → ℕ → List ℕ → Writing → List ℕ → Case
   plays : List Arguments → List Verdict → Case
+  names : Arguments → Option Key → Case
+  stands : Table → Bool → Case
 
 -- a case holds of the definitions that the contracts of the public calls cite, and a case of calls also of the history's sheet
 abbrev pub Holds : Case → Type 0
 Holds (reads s gives behind) = (reading s ≡ gives) × (userData s ≡ behind)
 Holds (writes h count out gives after) = (writing h count (length out) ≡ gives) × (outputAfter h (writing h count (length out)) out ≡ after)
 Holds (plays calls given) = (answers (λ x. onTable (callOf x)) [] calls ≡ given) × (answers sheet [] calls ≡ given)
+Holds (names call key) = message call ≡ key
+Holds (stands t well) = wellFormed t ≡ well
 
 abbrev pub AllHold : List Case → Type 0
 AllHold [] = Unit {0}
@@ -197,6 +207,21 @@ recordC = receiptFor (on 96 7 3)
 abbrev keyOn : Stamp → DeclaredKey
 keyOn stamp = record { address = byUrn 207; stamp = stamp }
 
+-- a table with such a message alone, its machine request open
+abbrev tableOn : Stamp → Table
+tableOn stamp =
+    record {
+      rows =
+          record {
+            key = keyOn stamp;
+            asked = record { machine = true; acknowledge = false; reply = false };
+            recipients = record { address = byUrn 3; machine = 0; acknowledge = 0; reply = 0 } ∷ replicate 15 noRecipient;
+            count = 1;
+          }
+          ∷ replicate 31 noRow;
+      count = 1;
+    }
+
 abbrev octetsA : List ℕ
 octetsA = 0x02 ∷ 0x08 ∷ 0x00 ∷ 0x00 ∷ 0x00 ∷ []
 
@@ -273,4 +298,12 @@ cases =
     -- 31 June posted, answered and released; 29 February of 96 posted and released
     ∷ plays (posting (messageOf (on 96 6 31)) 1 1 ∷ receiving (receiptFor (on 96 6 31)) 1 0 ∷ releasing (keyOn (on 96 6 31)) ∷ []) (just 3 ∷ just 3 ∷ just 3 ∷ [])
     ∷ plays (posting (messageOf (on 96 2 29)) 1 1 ∷ releasing (keyOn (on 97 2 29)) ∷ releasing (keyOn (on 96 2 29)) ∷ []) (just 0 ∷ just 3 ∷ just 0 ∷ [])
+    -- calls of such a day name no message, and a table with a row of it is none; of the last day that there is they do, and it is one
+    ∷ names (posting (messageOf (on 96 6 31)) 1 1) none
+    ∷ names (receiving (receiptFor (on 96 6 31)) 1 0) none
+    ∷ names (releasing (keyOn (on 97 2 29))) none
+    ∷ names (receiving (receiptFor (on 96 2 29)) 1 0) (some (keyOf (keyOn (on 96 2 29))))
+    ∷ stands (tableOn (on 96 6 31)) false
+    ∷ stands (tableOn (on 97 2 29)) false
+    ∷ stands (tableOn (on 96 6 30)) true
     ∷ []
