@@ -24,7 +24,7 @@ use record_octets::in_dtg;
 use record_octets::in_stamp;
 use record_octets::in_time;
 
-// Of the days of a month.
+// The day, one that its month has.
 fn check_day(year: u32, month: u32, x: &[u8]) -> Check
     requires { ⌜ length (now x) ≡ 4 ⌝ }
     ensures { λ r. ⌜ checkNo r ≡ dayIn year month .check (wordIn (now (x .entry))) ⌝ }

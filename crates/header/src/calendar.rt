@@ -6,6 +6,7 @@ ghost use Rattle.number.specs.Numbers.{numberOf};
 use crate::layout::DAY;
 use number::Range;
 
+// A day more in each year that divides by four. Year 0 does: it is 2000.
 fn in_february(year: u32) -> u32
     ensures { λ r. ⌜ r ≡ daysIn year 2 ⌝ }
 {
@@ -15,6 +16,7 @@ fn in_february(year: u32) -> u32
     28
 }
 
+// By the year's last two digits. A number that is no month's has 31 days here; it is refused before they are asked for.
 pub fn days_in(year: u32, month: u32) -> u32
     ensures { λ r. ⌜ r ≡ daysIn year month ⌝ }
 {
@@ -25,7 +27,7 @@ pub fn days_in(year: u32, month: u32) -> u32
     }
 }
 
-// The day's field in a month of its own.
+// The field of a day, in its month.
 pub fn day_in(year: u32, month: u32) -> Range
     ensures { λ r. ⌜ (numberOf r 3 ≡ dayIn year month) × (r .width ≡ 5) ⌝ }
 {

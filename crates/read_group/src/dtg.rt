@@ -29,7 +29,7 @@ use record_octets::in_dtg;
 use record_octets::in_stamp;
 use record_octets::in_time;
 
-// Of the days of a month.
+// The day, one that its month has.
 fn read_day(s: &[u8], at: BitPlace, year: u32, month: u32, x: &mut [u8]) -> Step
     requires { ⌜ (length (now s) ≤ datagramLimit) × (length (now x) ≡ 4) ⌝ }
     ensures { λ r. ⌜ Into (dayIn year month) wordOctets (λ v. v < 4294967296) (bitsOf (now (s .entry))) (at .0) r (now (x .exit)) ⌝ }
