@@ -1,5 +1,7 @@
 // Bit places and octet sizes, and fields of bits in octets: read and written by octet fragments, one
 // step for each octet that a field touches. Most fields lie in one octet or two: these go without a loop.
+#![tactic(auto)]
+
 ghost use Rattle.std.specs.Prelude.{◌≡◌, ◌+◌, ◌-◌, ◌*◌, ◌/◌, ◌%◌, ◌^◌, ◌≤◌, ◌<◌, min, ◌++◌, length};
 ghost use Rattle.bits.specs.Bits.{low_bits, bits_of, field, splice};
 ghost use Rattle.bits.specs.Units.{whole_octets, datagram_limit};

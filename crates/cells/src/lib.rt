@@ -1,5 +1,7 @@
 // Lent octets: numbers of four octets, flags, parts, and octets moved and copied where they lie. Each function of a thing
 // takes the part of the octets that is that thing. Nothing here knows of records or tables.
+#![tactic(auto)]
+
 ghost use Rattle.std.specs.Prelude.{◌≡◌, ◌+◌, ◌-◌, ◌*◌, ◌<◌, ◌≤◌, length, drop};
 ghost use Rattle.std.proofs.Math.Seq.{paste};
 ghost use Rattle.cells.specs.Cells.{part, zeros, word_in, word_octets, flag_in, flag_octets, mark_octets};

@@ -1,5 +1,7 @@
 // What reading, writing and checking answer: the kinds of fault, a step of reading, a number or a
 // flag that was read, and what a check says.
+#![tactic(auto)]
+
 ghost use Rattle.std.specs.Prelude.{◌≡◌};
 ghost use Rattle.codec.specs.Refusals.{number_step, flag_step, check_no, fault_no};
 ghost use Rattle.codec.specs.Codec.{first};

@@ -1,4 +1,6 @@
 // The field functions for the host's benchmark.
+#![tactic(auto)]
+
 ghost use Rattle.std.specs.Prelude.{◌≡◌, ◌+◌, ◌*◌, ◌≤◌, length};
 ghost use Rattle.bits.specs.Bits.{low_bits, bits_of, field, splice};
 

@@ -1,5 +1,7 @@
 // A presence or recurrence bit. Every bit is legal, so that only a bit that has to be 0 or 1 has a
 // check.
+#![tactic(auto)]
+
 ghost use Rattle.std.specs.Prelude.{◌≡◌, ◌+◌, ◌≤◌, false, length};
 ghost use Rattle.bits.specs.Bits.{bits_of};
 ghost use Rattle.bits.specs.Units.{datagram_limit};

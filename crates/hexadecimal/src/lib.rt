@@ -1,4 +1,6 @@
 // A line of hexadecimal digits, and the octets that it is.
+#![tactic(auto)]
+
 ghost use Rattle.std.specs.Prelude.{◌≡◌, true, ◌≤◌, length};
 ghost use Rattle.hexadecimal.specs.Lines.{value_of, all_digits, octets_in, is_line, octets_of, to_tell, told, output_after};
 

@@ -1,0 +1,11 @@
+-- `codec::Flag::step` meets its contract. Assumes nothing.
+use Rattle.codec.specs.Refusals.{flag_step}
+use Rattle.codec.proofs.Flag.step.Goals as goal
+
+pub returns-in-Got : goal.returns-in-Got
+unfolding flag_step
+returns-in-Got c = rw c.in-Got.is
+
+pub returns-in-Refused : goal.returns-in-Refused
+unfolding flag_step
+returns-in-Refused c = rw c.in-Refused.is
