@@ -16,7 +16,7 @@ use writer::Written;
 // Reading, the check, writing and the listing: number 0 and a size in octets; or a refusal's number, block and place,
 // and size 0.
 #[repr(C)]
-#[derive(Drop)]
+#[derive(Clone, Copy)]
 pub struct SizeAnswer {
     pub number: u32,
     pub block: u32,
@@ -26,7 +26,7 @@ pub struct SizeAnswer {
 
 // Posting, receipt and release: number 0 or the refusal's, its block, and the place, which is always 0.
 #[repr(C)]
-#[derive(Drop)]
+#[derive(Clone, Copy)]
 pub struct TableAnswer {
     pub number: u32,
     pub block: u32,

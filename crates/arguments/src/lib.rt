@@ -17,7 +17,7 @@ use writer::Written;
 pub mod parts;
 
 // Why a call is refused. The record's own faults, and a key's, are the writer's.
-#[derive(Drop)]
+#[derive(Clone, Copy)]
 pub enum PendingFault {
     Record(Fault),
     NothingAsked,
@@ -55,7 +55,7 @@ pub fn pending_number(f: PendingFault) -> u32
 
 // The answer of a call: done, or refused with the kind of fault, the place, which is always 0, and the block, 0 where
 // the refusal is about none.
-#[derive(Drop)]
+#[derive(Clone, Copy)]
 pub enum Answer {
     Done,
     Refused(PendingFault, BitPlace, BlockNumber),

@@ -7,12 +7,12 @@ ghost use Rattle.bits.specs.Bits.{low_bits, bits_of, field, splice};
 ghost use Rattle.bits.specs.Units.{whole_octets, datagram_limit};
 
 // Document 01's place: a bit of a datagram, counted from its first bit, which is 0.
-#[derive(Drop)]
+#[derive(Clone, Copy)]
 pub struct BitPlace(pub usize);
 
 // Document 01's size: a count of octets. It is another type than a place, so that neither can be
 // handed to a function that asks for the other.
-#[derive(Drop)]
+#[derive(Clone, Copy)]
 pub struct OctetSize(pub usize);
 
 // The one conversion from a place to a size: the whole octets that hold the bits before the place.

@@ -10,7 +10,7 @@ use bits::BitPlace;
 
 // The kinds of refusal of a header: those of fields, fill bits and lengths, then the rules (a) to (i), then the
 // sizes.
-#[derive(Drop)]
+#[derive(Clone, Copy)]
 pub enum Fault {
     Short,
     Version,
@@ -69,25 +69,25 @@ pub fn fault_number(f: Fault) -> u32
 }
 
 // Which message block a refusal is about, counted from 1; 0 where it is about none.
-#[derive(Drop)]
+#[derive(Clone, Copy)]
 pub struct BlockNumber(pub u32);
 
 // How reading a group went on: at the next place, or with a refusal's kind and place.
-#[derive(Drop)]
+#[derive(Clone, Copy)]
 pub enum Step {
     Next(BitPlace),
     Refused(Fault, BitPlace),
 }
 
 // A number with the next place, or a refusal.
-#[derive(Drop)]
+#[derive(Clone, Copy)]
 pub enum Number {
     Got(u32, BitPlace),
     Refused(Fault, BitPlace),
 }
 
 // A presence or recurrence bit with the next place, or a refusal.
-#[derive(Drop)]
+#[derive(Clone, Copy)]
 pub enum Flag {
     Got(bool, BitPlace),
     Refused(Fault, BitPlace),
@@ -116,14 +116,14 @@ impl Flag {
 }
 
 // What the writer's check of a value says.
-#[derive(Drop)]
+#[derive(Clone, Copy)]
 pub enum Check {
     Fine,
     Bad(Fault),
 }
 
 // What the rules and the sizes say of a record's blocks.
-#[derive(Drop)]
+#[derive(Clone, Copy)]
 pub enum Finding {
     Fine,
     Bad(Fault, BlockNumber),

@@ -1,5 +1,7 @@
 // The record of a header: every field of Table I in its order, with its presence beside each one that
 // may be absent. What is not present, or lies behind a count, is an unused cell and carries no meaning.
+#![tactic(auto)]
+
 use optional::OptionalNumber;
 use text::Text;
 
@@ -10,7 +12,7 @@ pub mod layout;
 pub mod zero;
 
 #[repr(C)]
-#[derive(Drop)]
+#[derive(Clone, Copy)]
 pub struct OptionalText {
     pub present: bool,
     pub text: Text,
@@ -18,28 +20,28 @@ pub struct OptionalText {
 
 // An address: a URN or a unit name, exactly one of them.
 #[repr(C)]
-#[derive(Drop)]
+#[derive(Clone, Copy)]
 pub struct Address {
     pub urn: OptionalNumber,
     pub name: OptionalText,
 }
 
 #[repr(C)]
-#[derive(Drop)]
+#[derive(Clone, Copy)]
 pub struct OptionalAddress {
     pub present: bool,
     pub address: Address,
 }
 
 #[repr(C)]
-#[derive(Drop)]
+#[derive(Clone, Copy)]
 pub struct Addresses {
     pub list: [Address; 16],
     pub count: u32,
 }
 
 #[repr(C)]
-#[derive(Drop)]
+#[derive(Clone, Copy)]
 pub struct OptionalAddresses {
     pub present: bool,
     pub addresses: Addresses,
@@ -48,7 +50,7 @@ pub struct OptionalAddresses {
 // The fields up to the end of G3: version, compression, G1 originator, G2 recipients and G3
 // information addressees.
 #[repr(C)]
-#[derive(Drop)]
+#[derive(Clone, Copy)]
 pub struct Front {
     pub version: u32,
     pub compression: OptionalNumber,
@@ -58,7 +60,7 @@ pub struct Front {
 }
 
 #[repr(C)]
-#[derive(Drop)]
+#[derive(Clone, Copy)]
 pub struct Date {
     pub year: u32,
     pub month: u32,
@@ -66,7 +68,7 @@ pub struct Date {
 }
 
 #[repr(C)]
-#[derive(Drop)]
+#[derive(Clone, Copy)]
 pub struct Time {
     pub hour: u32,
     pub minute: u32,
@@ -75,14 +77,14 @@ pub struct Time {
 
 // A date-time group.
 #[repr(C)]
-#[derive(Drop)]
+#[derive(Clone, Copy)]
 pub struct Dtg {
     pub date: Date,
     pub time: Time,
 }
 
 #[repr(C)]
-#[derive(Drop)]
+#[derive(Clone, Copy)]
 pub struct OptionalDtg {
     pub present: bool,
     pub dtg: Dtg,
@@ -90,14 +92,14 @@ pub struct OptionalDtg {
 
 // A DTG with its extension: what names a message beside its originator.
 #[repr(C)]
-#[derive(Drop)]
+#[derive(Clone, Copy)]
 pub struct Stamp {
     pub dtg: Dtg,
     pub extension: OptionalNumber,
 }
 
 #[repr(C)]
-#[derive(Drop)]
+#[derive(Clone, Copy)]
 pub struct OptionalStamp {
     pub present: bool,
     pub stamp: Stamp,
@@ -105,7 +107,7 @@ pub struct OptionalStamp {
 
 // G4: functional area designator, message number and subtype.
 #[repr(C)]
-#[derive(Drop)]
+#[derive(Clone, Copy)]
 pub struct Identity {
     pub fad: u32,
     pub number: u32,
@@ -113,7 +115,7 @@ pub struct Identity {
 }
 
 #[repr(C)]
-#[derive(Drop)]
+#[derive(Clone, Copy)]
 pub struct OptionalIdentity {
     pub present: bool,
     pub identity: Identity,
@@ -121,7 +123,7 @@ pub struct OptionalIdentity {
 
 // A block's first fields: user message format, message standard version, G4, file name.
 #[repr(C)]
-#[derive(Drop)]
+#[derive(Clone, Copy)]
 pub struct Format {
     pub umf: u32,
     pub version: OptionalNumber,
@@ -131,7 +133,7 @@ pub struct Format {
 
 // Operation and retransmit indicators, message precedence, security classification.
 #[repr(C)]
-#[derive(Drop)]
+#[derive(Clone, Copy)]
 pub struct Codes {
     pub operation: u32,
     pub retransmit: u32,
@@ -141,7 +143,7 @@ pub struct Codes {
 
 // A block's next fields: message size, the four codes, control and release marking.
 #[repr(C)]
-#[derive(Drop)]
+#[derive(Clone, Copy)]
 pub struct Handling {
     pub size: OptionalNumber,
     pub codes: Codes,
@@ -150,7 +152,7 @@ pub struct Handling {
 
 // G7: machine acknowledge, operator acknowledge and operator reply requests.
 #[repr(C)]
-#[derive(Drop)]
+#[derive(Clone, Copy)]
 pub struct Requests {
     pub machine: bool,
     pub acknowledge: bool,
@@ -158,7 +160,7 @@ pub struct Requests {
 }
 
 #[repr(C)]
-#[derive(Drop)]
+#[derive(Clone, Copy)]
 pub struct OptionalRequests {
     pub present: bool,
     pub requests: Requests,
@@ -166,7 +168,7 @@ pub struct OptionalRequests {
 
 // G5 originator's DTG, G6 perishability DTG, G7 requests.
 #[repr(C)]
-#[derive(Drop)]
+#[derive(Clone, Copy)]
 pub struct Times {
     pub origin: OptionalStamp,
     pub perish: OptionalDtg,
@@ -175,7 +177,7 @@ pub struct Times {
 
 // Receipt/compliance with its CANTCO and CANTPRO reasons.
 #[repr(C)]
-#[derive(Drop)]
+#[derive(Clone, Copy)]
 pub struct Compliance {
     pub code: u32,
     pub cantco: OptionalNumber,
@@ -184,7 +186,7 @@ pub struct Compliance {
 
 // G8: the DTG of the message answered, the answer, and its amplification.
 #[repr(C)]
-#[derive(Drop)]
+#[derive(Clone, Copy)]
 pub struct Response {
     pub stamp: Stamp,
     pub compliance: Compliance,
@@ -192,7 +194,7 @@ pub struct Response {
 }
 
 #[repr(C)]
-#[derive(Drop)]
+#[derive(Clone, Copy)]
 pub struct OptionalResponse {
     pub present: bool,
     pub response: Response,
@@ -200,21 +202,21 @@ pub struct OptionalResponse {
 
 // An entry of G9: a message referred to.
 #[repr(C)]
-#[derive(Drop)]
+#[derive(Clone, Copy)]
 pub struct Reference {
     pub address: Address,
     pub stamp: Stamp,
 }
 
 #[repr(C)]
-#[derive(Drop)]
+#[derive(Clone, Copy)]
 pub struct References {
     pub list: [Reference; 4],
     pub count: u32,
 }
 
 #[repr(C)]
-#[derive(Drop)]
+#[derive(Clone, Copy)]
 pub struct OptionalReferences {
     pub present: bool,
     pub references: References,
@@ -222,7 +224,7 @@ pub struct OptionalReferences {
 
 // A message block. The presence bit of G10 has to be 0 and has no cell.
 #[repr(C)]
-#[derive(Drop)]
+#[derive(Clone, Copy)]
 pub struct Block {
     pub format: Format,
     pub handling: Handling,
@@ -232,7 +234,7 @@ pub struct Block {
 }
 
 #[repr(C)]
-#[derive(Drop)]
+#[derive(Clone, Copy)]
 pub struct Blocks {
     pub list: [Block; 16],
     pub count: u32,
@@ -240,7 +242,7 @@ pub struct Blocks {
 
 // The record: the header size is present or not; its number is the header's own octets.
 #[repr(C)]
-#[derive(Drop)]
+#[derive(Clone, Copy)]
 pub struct Header {
     pub front: Front,
     pub sized: bool,
@@ -248,7 +250,7 @@ pub struct Header {
 }
 
 // The header as its bits hold it, with the number in the header size field.
-#[derive(Drop)]
+#[derive(Clone, Copy)]
 pub struct Wire {
     pub front: Front,
     pub size: OptionalNumber,
@@ -257,7 +259,7 @@ pub struct Wire {
 
 // What the rules look at in the fields before the blocks: whether there is an originator, compression, a header size, and
 // more than one block.
-#[derive(Drop)]
+#[derive(Clone, Copy)]
 pub struct Setting {
     pub originator: bool,
     pub compression: bool,

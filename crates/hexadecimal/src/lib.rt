@@ -7,7 +7,7 @@ ghost use Rattle.hexadecimal.specs.Lines.{value_of, all_digits, octets_in, is_li
 use bits::OctetSize;
 
 // What a line is: skipped, or a datagram of so many octets.
-#[derive(Drop)]
+#[derive(Clone, Copy)]
 pub enum LineRead {
     Skipped,
     Octets(OctetSize),

@@ -21,7 +21,7 @@ pub mod keys;
 pub mod well;
 
 // What was seen. The place is the key's only where the table is well formed.
-#[derive(Drop)]
+#[derive(Clone, Copy)]
 pub struct Seen {
     pub well: bool,
     pub place: Position,

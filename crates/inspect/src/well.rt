@@ -23,7 +23,7 @@ use table::codes::{
 use table_octets::{in_recipient, in_row};
 
 // The code at each request of a recipient; 0 where there is none.
-#[derive(Drop)]
+#[derive(Clone, Copy)]
 pub struct RecipientCodes {
     pub machine: u32,
     pub acknowledge: u32,

@@ -5,7 +5,7 @@ use bits::BitPlace;
 
 // The octets of a datagram and the place behind its last field; every bit from there on is 0. A field
 // for which there is no room is left out, and no other fits behind it: the place is then the last, 2048.
-#[derive(Drop)]
+#[derive(Clone, Copy)]
 pub struct Draft {
     pub octets: [u8; 256],
     pub end: BitPlace,

@@ -17,7 +17,7 @@ use record_octets::{
 // and of the user data; the length of the originator's name, and the counts of the lists, the references
 // those of the first block; and its standard version, 16 where it has none. Of a refused datagram only the
 // first three mean anything.
-#[derive(Drop)]
+#[derive(Clone, Copy)]
 pub struct Summary {
     pub number: u64,
     pub place: u64,

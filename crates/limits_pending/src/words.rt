@@ -58,7 +58,7 @@ pub type Numbers = [u32; 26];
 
 // What has been read of a line: its first letter, its numbers, its addresses; and the part that is being read,
 // with the forms of its address.
-#[derive(Drop)]
+#[derive(Clone, Copy)]
 pub struct Line {
     pub verb: u8,
     pub numbers: Numbers,

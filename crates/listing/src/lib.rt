@@ -18,7 +18,7 @@ use table_octets::{KEY, TABLE, in_key, in_table};
 const LONGEST: usize = 4096;
 
 // Why a row is not listed.
-#[derive(Drop)]
+#[derive(Clone, Copy)]
 pub enum ListingFault {
     NoRoom,
     IllFormed,
@@ -26,7 +26,7 @@ pub enum ListingFault {
 
 // The answer of the listing: done, with the octets written; or refused with the kind of fault, the place
 // and the block, which are always 0.
-#[derive(Drop)]
+#[derive(Clone, Copy)]
 pub enum Listed {
     Done(OctetSize),
     Refused(ListingFault, BitPlace, BlockNumber),

@@ -13,7 +13,7 @@ use codec::{Check, Fault, Number};
 
 // What the layout says of a number: its bits, and its least and largest legal value. It is said once
 // and serves reading, writing, the check and the end.
-#[derive(Drop)]
+#[derive(Clone, Copy)]
 pub struct Range {
     pub width: usize,
     pub least: u32,

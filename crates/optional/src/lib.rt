@@ -1,4 +1,6 @@
 // A number behind its presence bit.
+#![tactic(auto)]
+
 ghost use Rattle.std.specs.Prelude.{◌≡◌, ◌+◌, ◌≤◌, length};
 ghost use Rattle.bits.specs.Bits.{bits_of};
 ghost use Rattle.bits.specs.Units.{datagram_limit};
@@ -13,13 +15,13 @@ use number::{Range, check_number, end_number, read_number, write_number};
 
 // A number that may be absent; its cell is unused then.
 #[repr(C)]
-#[derive(Drop)]
+#[derive(Clone, Copy)]
 pub struct OptionalNumber {
     pub present: bool,
     pub value: u32,
 }
 
-#[derive(Drop)]
+#[derive(Clone, Copy)]
 pub struct OptionalRead {
     pub step: Step,
     pub number: OptionalNumber,

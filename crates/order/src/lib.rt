@@ -14,14 +14,14 @@ use record_octets::{in_address, in_optional_text, in_text};
 
 // What names a message: its originator's address, its DTG and extension.
 #[repr(C)]
-#[derive(Drop)]
+#[derive(Clone, Copy)]
 pub struct Key {
     pub address: Address,
     pub stamp: Stamp,
 }
 
 // How the first of two values stands to the second.
-#[derive(Drop)]
+#[derive(Clone, Copy)]
 pub enum Comparison {
     Less,
     Same,
@@ -29,7 +29,7 @@ pub enum Comparison {
 }
 
 // Three numbers of a date or a time, the larger unit first.
-#[derive(Drop)]
+#[derive(Clone, Copy)]
 struct Three(u32, u32, u32);
 
 // The second comparison counts where the first finds no difference.

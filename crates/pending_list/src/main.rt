@@ -9,7 +9,7 @@ use table_octets::TABLE;
 
 // How far a chunk was read: the characters held of the line, the place in the chunk, and whether the
 // line ended there.
-#[derive(Drop)]
+#[derive(Clone, Copy)]
 pub struct Stop {
     pub held: usize,
     pub at: usize,

@@ -2,14 +2,14 @@
 use codec::Step;
 
 // Of an entry behind its recurrence bit: how reading goes on, and whether there is another.
-#[derive(Drop)]
+#[derive(Clone, Copy)]
 pub struct Entry {
     pub step: Step,
     pub more: bool,
 }
 
 // Of all entries: how reading goes on, and how many there are.
-#[derive(Drop)]
+#[derive(Clone, Copy)]
 pub struct Entries {
     pub step: Step,
     pub count: u32,

@@ -19,14 +19,14 @@ pub mod wire;
 
 // How a reading ended: done, or refused with the kind of fault, the bit place and the block, 0 where the refusal is
 // about none.
-#[derive(Drop)]
+#[derive(Clone, Copy)]
 pub enum Outcome {
     Done,
     Refused(Fault, BitPlace, BlockNumber),
 }
 
 // A reading's outcome and the header's length; refused, the length is 0.
-#[derive(Drop)]
+#[derive(Clone, Copy)]
 pub struct HeaderRead {
     pub outcome: Outcome,
     pub length: OctetSize,

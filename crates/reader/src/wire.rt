@@ -21,7 +21,7 @@ use read_front::front::read_front;
 use record_octets::in_header;
 
 // How reading the fields went on, and the header size; a record has only its presence.
-#[derive(Drop)]
+#[derive(Clone, Copy)]
 pub struct Fields {
     pub step: Step,
     pub size: OptionalNumber,

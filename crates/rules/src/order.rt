@@ -6,7 +6,7 @@ ghost use Rattle.rules.specs.Ranks.{rule_numbers, body_numbers, told_of, better_
 use codec::{BlockNumber, Fault, Finding};
 
 // What was found first so far: the rule's rank, and the block, 0 where it is the record as a whole.
-#[derive(Drop)]
+#[derive(Clone, Copy)]
 pub struct Broken {
     pub rank: u32,
     pub block: BlockNumber,

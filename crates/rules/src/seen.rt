@@ -16,7 +16,7 @@ use record_octets::in_blocks;
 
 // What the blocks so far show: the first broken rule; the first body that is missing or may not be; whether the
 // data octets were enough for their sizes, and what they leave of them.
-#[derive(Drop)]
+#[derive(Clone, Copy)]
 pub struct Seen {
     pub rule: Broken,
     pub body: Broken,

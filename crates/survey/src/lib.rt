@@ -19,7 +19,7 @@ use rules::seen::{Seen, conclude, see, unseen};
 use rules::sizes::alone_share;
 
 // What the blocks so far show of the rules and the sizes, and the place behind them.
-#[derive(Drop)]
+#[derive(Clone, Copy)]
 pub struct Found {
     pub seen: Seen,
     pub end: BitPlace,
@@ -27,7 +27,7 @@ pub struct Found {
 
 // What all fields show: the first fault of one; where there is none, what the rules and the sizes say, and the place
 // behind the blocks.
-#[derive(Drop)]
+#[derive(Clone, Copy)]
 pub struct Survey {
     pub fault: Check,
     pub finding: Finding,

@@ -6,7 +6,7 @@ pub mod codes;
 
 // A recipient of a row, with the code that settled each request; 0 where there is none.
 #[repr(C)]
-#[derive(Drop)]
+#[derive(Clone, Copy)]
 pub struct Recipient {
     pub address: Address,
     pub machine: u32,
@@ -16,7 +16,7 @@ pub struct Recipient {
 
 // A message that was posted: its key, the asked requests, and its recipients in address order.
 #[repr(C)]
-#[derive(Drop)]
+#[derive(Clone, Copy)]
 pub struct Row {
     pub key: Key,
     pub asked: Requests,
@@ -26,14 +26,14 @@ pub struct Row {
 
 // The rows in key order. Cells beyond a count are unused and carry no meaning.
 #[repr(C)]
-#[derive(Drop)]
+#[derive(Clone, Copy)]
 pub struct Table {
     pub rows: [Row; 32],
     pub count: u32,
 }
 
 // Where a row or a recipient stands, or where it would stand while it is not held.
-#[derive(Drop)]
+#[derive(Clone, Copy)]
 pub struct Position {
     pub at: usize,
     pub held: bool,

@@ -1,4 +1,6 @@
 // A text of 7-bit characters, read.
+#![tactic(auto)]
+
 ghost use Rattle.std.specs.Prelude.{◌≡◌, ◌≤◌, length};
 ghost use Rattle.bits.specs.Bits.{bits_of};
 ghost use Rattle.bits.specs.Units.{datagram_limit};
@@ -11,13 +13,13 @@ use number::{Range, read_number};
 
 // The characters of a text and their count. The cells behind them are unused.
 #[repr(C)]
-#[derive(Drop)]
+#[derive(Clone, Copy)]
 pub struct Text {
     pub chars: [u8; 64],
     pub len: u32,
 }
 
-#[derive(Drop)]
+#[derive(Clone, Copy)]
 pub struct TextRead {
     pub step: Step,
     pub text: Text,

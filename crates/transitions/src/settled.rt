@@ -48,7 +48,7 @@ fn code_after(opened: bool, code: u32, old: u32) -> u32
 }
 
 // A recipient's codes behind a receipt, and whether a request was open to the one that came.
-#[derive(Drop)]
+#[derive(Clone, Copy)]
 struct Settled {
     opened: bool,
     codes: RecipientCodes,

@@ -15,7 +15,7 @@ pub mod wire;
 
 // The answer of writing and of the check: done, with the header's octets; or refused with the kind of
 // fault, the place, which is always 0, and the block, 0 where the refusal is about none.
-#[derive(Drop)]
+#[derive(Clone, Copy)]
 pub enum Written {
     Done(OctetSize),
     Refused(Fault, BitPlace, BlockNumber),

@@ -2,7 +2,6 @@
 use borrow.Author.Rules.{rules}
 use mathlib.Core.Path.{◌≡◌, sym, ◌∙◌}
 use mathlib.Core.Bool.{true, false}
-use borrow.Author.Tests.{not-true, not-false}
 use Rattle.hexadecimal.specs.Lines.{is_line}
 use Rattle.hexadecimal.proofs.Digits.{tell-skipped, tell-octets}
 use Rattle.hexadecimal.proofs.Filling.{kept_out}
@@ -10,14 +9,14 @@ use Rattle.hexadecimal.proofs.line_octets.Goals as goal
 
 pub returns-then-not-is_line : goal.returns-then-not-is_line
 returns-then-not-is_line c =
-    let e : is_line c.args.line.now ≡ false = sym c.is_line.ensures ∙ not-true _ c.if-not-is_line.true in
+    let e : is_line c.args.line.now ≡ false = sym c.is_line.ensures ∙ c.if-not-is_line.true in
     (tell-skipped c.args.line.now e, kept_out c.args.line.now _ e)
 
 pub put_line-size-requires : goal.put_line-size-requires
-put_line-size-requires c = (sym c.is_line.ensures ∙ not-false _ c.if-not-is_line.false, search rules)
+put_line-size-requires c = (sym c.is_line.ensures ∙ c.if-not-is_line.false, search rules)
 
 pub returns : goal.returns
 returns c =
     let g = c.put_line-size.ensures in
-    let e : is_line c.args.line.now ≡ true = sym c.is_line.ensures ∙ not-false _ c.if-not-is_line.false in
+    let e : is_line c.args.line.now ≡ true = sym c.is_line.ensures ∙ c.if-not-is_line.false in
     (tell-octets c.args.line.now _ e g.0, g.1)

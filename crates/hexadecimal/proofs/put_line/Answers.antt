@@ -15,7 +15,7 @@ bounds-out-i c =
 pub loop-i-preserved : goal.loop-i-preserved
 loop-i-preserved c =
     let v = c.loop-i.invariant in
-    (filling-more _ _ _ _ _ _ _ _ v.0 (omega (arith, v.0.room, c.requires.1, line-fits c.args.line.now c.requires.0)) (omega arith) c.value_of_lem.ensures c.value_of-low.ensures refl, omega arith)
+    (filling-more _ _ _ _ _ _ _ _ v.0 (omega (arith, v.0.room, c.requires.1, line-fits c.args.line.now c.requires.0)) (omega arith) c.value_of-high.ensures c.value_of-low.ensures refl, omega arith)
 
 pub shape_of-out : goal.shape_of-out
 shape_of-out c = c.loop-i.invariant.0.room
