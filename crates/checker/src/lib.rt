@@ -1,5 +1,7 @@
 // The writer's checks of the record's fields, group by group: each says the first refusal in field
 // order.
+#![tactic(auto)]
+
 pub mod address;
 pub mod block;
 pub mod dtg;

@@ -1,4 +1,6 @@
 // Where the groups of a record end when they are written at a place.
+#![tactic(auto)]
+
 pub mod address;
 pub mod block;
 pub mod dtg;

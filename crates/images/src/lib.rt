@@ -1,5 +1,7 @@
 // Clean copies of an address, a stamp and a key: what is used, and 0 in every octet that is not. The octets that a copy is put into may
 // hold anything before.
+#![tactic(auto)]
+
 ghost use Rattle.std.specs.Prelude.{◌≡◌, true, ◌++◌, ◌-◌, ◌<◌, ◌≤◌, min, length, take};
 ghost use Rattle.text.specs.Texts.{chars_of};
 ghost use Rattle.header.specs.Table.{stamp};

@@ -1,5 +1,7 @@
 // The key of a message, and the orders that the order of keys is made of: texts and addresses are compared where they lie in lent
 // octets, stamps by value.
+#![tactic(auto)]
+
 ghost use Rattle.std.specs.Prelude.{◌≡◌, length, take};
 ghost use Rattle.text.specs.Texts.{chars_of};
 ghost use Rattle.calls.specs.Order.{then, by_number, list, option};

@@ -1,12 +1,11 @@
 -- Every value of a declared type is as its type says: what the type says of the machine's value says how large numbers are, and how many cells arrays
 -- have. Assumes nothing. Written by layout/generate.py.
-use mathlib.Core.List.{List, [], ◌∷◌, map}
+use mathlib.Core.List.{List, [], ◌∷◌}
 use mir.Val.{Val}
 use denote.Array.{each}
 use denote.Laws.{Is}
 use denote.Shadow.{shadow}
 use denote.Struct.Declared as declared
-use Rattle.codec.proofs.ListLaws.{unmapped}
 use Rattle.cells.specs.Cells.{Each}
 use Rattle.optional.specs.declared.OptionalNumber.{OptionalNumber}
 use Rattle.optional.specs.contracts.OptionalNumber as «optional_number»
@@ -72,7 +71,7 @@ pub optional_number-typed : (x : OptionalNumber) (vs : List Val) → Is (declare
 optional_number-typed x vs p = record { value = p.1.1.1.0.1 }
 
 pub text-typed : (x : Text) (vs : List Val) → Is (declared.row «text».the_type) x vs → TypedText x
-text-typed x vs p = record { chars = unmapped _ _ _ x.chars 64 p.1.1.0.1.0.1; len = p.1.1.1.0.1 }
+text-typed x vs p = record { chars = p.1.1.0.1.0.1; len = p.1.1.1.0.1 }
 
 pub optional_text-typed : (x : OptionalText) (vs : List Val) → Is (declared.row «optional_text».the_type) x vs → TypedOptionalText x
 optional_text-typed x vs p = record { text = text-typed x.text _ p.1.1.1.0 }
@@ -80,7 +79,7 @@ optional_text-typed x vs p = record { text = text-typed x.text _ p.1.1.1.0 }
 pub address-typed : (x : Address) (vs : List Val) → Is (declared.row «address».the_type) x vs → TypedAddress x
 address-typed x vs p = record { urn = optional_number-typed x.urn _ p.1.1.0; name = optional_text-typed x.name _ p.1.1.1.0 }
 
-address-each : (l : List Address) (us : List Val) → shadow (each («address».the_field).row.Denot («address».the_field).row.own_val (map («address».the_field).into l) us) → Each TypedAddress l
+address-each : (l : List Address) (us : List Val) → shadow (each («address».the_row).Denot («address».the_row).own_val l us) → Each TypedAddress l
 address-each [] us s = tt
 address-each (x ∷ l) [] s = absurd s
 address-each (x ∷ l) (u ∷ us) s = (address-typed x _ s.0, address-each l us s.1)
@@ -89,7 +88,7 @@ pub optional_address-typed : (x : OptionalAddress) (vs : List Val) → Is (decla
 optional_address-typed x vs p = record { address = address-typed x.address _ p.1.1.1.0 }
 
 pub addresses-typed : (x : Addresses) (vs : List Val) → Is (declared.row «addresses».the_type) x vs → TypedAddresses x
-addresses-typed x vs p = record { list = (unmapped _ _ _ x.list 16 p.1.1.0.1.0.1, address-each x.list p.1.1.0.0 p.1.1.0.1.1); count = p.1.1.1.0.1 }
+addresses-typed x vs p = record { list = (p.1.1.0.1.0.1, address-each x.list p.1.1.0.0 p.1.1.0.1.1); count = p.1.1.1.0.1 }
 
 pub optional_addresses-typed : (x : OptionalAddresses) (vs : List Val) → Is (declared.row «optional_addresses».the_type) x vs → TypedOptionalAddresses x
 optional_addresses-typed x vs p = record { addresses = addresses-typed x.addresses _ p.1.1.1.0 }
@@ -145,13 +144,13 @@ optional_response-typed x vs p = record { response = response-typed x.response _
 pub reference-typed : (x : Reference) (vs : List Val) → Is (declared.row «reference».the_type) x vs → TypedReference x
 reference-typed x vs p = record { address = address-typed x.address _ p.1.1.0; stamp = stamp-typed x.stamp _ p.1.1.1.0 }
 
-reference-each : (l : List Reference) (us : List Val) → shadow (each («reference».the_field).row.Denot («reference».the_field).row.own_val (map («reference».the_field).into l) us) → Each TypedReference l
+reference-each : (l : List Reference) (us : List Val) → shadow (each («reference».the_row).Denot («reference».the_row).own_val l us) → Each TypedReference l
 reference-each [] us s = tt
 reference-each (x ∷ l) [] s = absurd s
 reference-each (x ∷ l) (u ∷ us) s = (reference-typed x _ s.0, reference-each l us s.1)
 
 pub references-typed : (x : References) (vs : List Val) → Is (declared.row «references».the_type) x vs → TypedReferences x
-references-typed x vs p = record { list = (unmapped _ _ _ x.list 4 p.1.1.0.1.0.1, reference-each x.list p.1.1.0.0 p.1.1.0.1.1); count = p.1.1.1.0.1 }
+references-typed x vs p = record { list = (p.1.1.0.1.0.1, reference-each x.list p.1.1.0.0 p.1.1.0.1.1); count = p.1.1.1.0.1 }
 
 pub optional_references-typed : (x : OptionalReferences) (vs : List Val) → Is (declared.row «optional_references».the_type) x vs → TypedOptionalReferences x
 optional_references-typed x vs p = record { references = references-typed x.references _ p.1.1.1.0 }
@@ -159,13 +158,13 @@ optional_references-typed x vs p = record { references = references-typed x.refe
 pub block-typed : (x : Block) (vs : List Val) → Is (declared.row «block».the_type) x vs → TypedBlock x
 block-typed x vs p = record { format = format-typed x.format _ p.1.1.0; handling = handling-typed x.handling _ p.1.1.1.0; times = times-typed x.times _ p.1.1.1.1.0; response = optional_response-typed x.response _ p.1.1.1.1.1.0; references = optional_references-typed x.references _ p.1.1.1.1.1.1.0 }
 
-block-each : (l : List Block) (us : List Val) → shadow (each («block».the_field).row.Denot («block».the_field).row.own_val (map («block».the_field).into l) us) → Each TypedBlock l
+block-each : (l : List Block) (us : List Val) → shadow (each («block».the_row).Denot («block».the_row).own_val l us) → Each TypedBlock l
 block-each [] us s = tt
 block-each (x ∷ l) [] s = absurd s
 block-each (x ∷ l) (u ∷ us) s = (block-typed x _ s.0, block-each l us s.1)
 
 pub blocks-typed : (x : Blocks) (vs : List Val) → Is (declared.row «blocks».the_type) x vs → TypedBlocks x
-blocks-typed x vs p = record { list = (unmapped _ _ _ x.list 16 p.1.1.0.1.0.1, block-each x.list p.1.1.0.0 p.1.1.0.1.1); count = p.1.1.1.0.1 }
+blocks-typed x vs p = record { list = (p.1.1.0.1.0.1, block-each x.list p.1.1.0.0 p.1.1.0.1.1); count = p.1.1.1.0.1 }
 
 pub header-typed : (x : Header) (vs : List Val) → Is (declared.row «header».the_type) x vs → TypedHeader x
 header-typed x vs p = record { front = front-typed x.front _ p.1.1.0; blocks = blocks-typed x.blocks _ p.1.1.1.1.0 }

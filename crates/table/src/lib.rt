@@ -1,4 +1,6 @@
 // The table of pending messages, document 01's board: a row for each message that still owes answers.
+#![tactic(auto)]
+
 use header::{Address, Requests};
 use order::Key;
 

@@ -1,5 +1,6 @@
 // The layout of the octets of a table: for each struct a module `in_..` with the place of each of its fields, counted from the struct's own first
 // octet, and END, its size; of a list also ENTRY, the size of an entry. A field ends where the next one starts. Written by layout/generate.py; what the octets mean is in specs/.
+#![tactic(auto)]
 
 // The octets of a table.
 pub const TABLE: usize = 50948;

@@ -1,3 +1,5 @@
 // Writing a message block, and the list of them.
+#![tactic(auto)]
+
 pub mod block;
 pub mod references;

@@ -1,4 +1,6 @@
 // Writing the groups of a message block up to G8.
+#![tactic(auto)]
+
 pub mod dtg;
 pub mod format;
 pub mod handling;

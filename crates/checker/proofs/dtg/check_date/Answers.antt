@@ -1,0 +1,18 @@
+-- `checker::dtg::check_date` meets its contract. Assumes nothing.
+use mathlib.Core.Path.{◌≡◌, ap, ap₂, ◌∙◌}
+use Prim.Native.Nat.{ℕ}
+use Rattle.codec.specs.Codec.{first, number, viewed, ◌then_by◌}
+use Rattle.header.specs.Table.{date, day_in}
+use Rattle.header.specs.declared.Date.{Date}
+use Rattle.record_octets.specs.Record.{date_in}
+use Rattle.checker.proofs.dtg.check_date.Goals as goal
+
+-- the year and the month that were loaded are the date's
+checked : (x : Date) (year month years months days rest r : ℕ) → year ≡ x.year → month ≡ x.month → years ≡ (number 7 0 99 3).check year → months ≡ (number 4 1 12 3).check month → days ≡ (day_in year month).check x.day → rest ≡ first months days → r ≡ first years rest → r ≡ date.check x
+unfolding date viewed ◌then_by◌
+checked x year month years months days rest r y m a b d f e =
+    e ∙ ap₂ first (a ∙ ap (λ (v : ℕ). (number 7 0 99 3).check v) y) (f ∙ ap₂ first (b ∙ ap (λ (v : ℕ). (number 4 1 12 3).check v) m) (d ∙ ap₂ (λ (v w : ℕ). (day_in v w).check x.day) y m))
+
+pub returns : goal.returns
+unfolding date_in
+returns c = checked (date_in c.args.x.now) _ _ _ _ _ _ _ c.load_word-year.ensures c.load_word-month.ensures c.check_number-years.ensures c.check_number-months.ensures c.check_day-days.ensures c.earlier-rest.ensures c.earlier.ensures

@@ -1,0 +1,15 @@
+-- `checker::format::check_optional_identity` meets its contract. Assumes nothing.
+use mathlib.Core.Path.{sym, ◌∙◌}
+use Rattle.codec.specs.Refusals.{check_no}
+use Rattle.codec.proofs.Compose.{checking}
+use Rattle.header.specs.Table.{optional_identity}
+use Rattle.record_octets.specs.Record.{optional_identity_in}
+use Rattle.checker.proofs.format.check_optional_identity.Goals as goal
+
+pub returns-then-present : goal.returns-then-present
+unfolding optional_identity check_no optional_identity_in
+returns-then-present c = let e = sym c.load_flag-present.ensures ∙ c.if-present.true in search checking depth 12
+
+pub returns : goal.returns
+unfolding optional_identity check_no optional_identity_in
+returns c = let e = sym c.load_flag-present.ensures ∙ c.if-present.false in search checking depth 12

@@ -1,0 +1,15 @@
+-- `checker::front::check_recipients` meets its contract. Assumes nothing.
+use mathlib.Core.Path.{sym, ◌∙◌}
+use Rattle.codec.specs.Refusals.{check_no}
+use Rattle.codec.proofs.Compose.{checking}
+use Rattle.header.specs.Table.{recipients}
+use Rattle.record_octets.specs.Record.{optional_addresses_in}
+use Rattle.checker.proofs.front.check_recipients.Goals as goal
+
+pub returns-then-present : goal.returns-then-present
+unfolding recipients check_no optional_addresses_in
+returns-then-present c = let e = sym c.load_flag-present.ensures ∙ c.if-present.true in search checking depth 12
+
+pub returns : goal.returns
+unfolding recipients check_no optional_addresses_in
+returns c = let e = sym c.load_flag-present.ensures ∙ c.if-present.false in search checking depth 12

@@ -1,0 +1,15 @@
+-- `checker::references::check_optional_references` meets its contract. Assumes nothing.
+use mathlib.Core.Path.{sym, ◌∙◌}
+use Rattle.codec.specs.Refusals.{check_no}
+use Rattle.codec.proofs.Compose.{checking}
+use Rattle.header.specs.Table.{optional_references}
+use Rattle.record_octets.specs.Record.{optional_references_in}
+use Rattle.checker.proofs.references.check_optional_references.Goals as goal
+
+pub returns-then-present : goal.returns-then-present
+unfolding optional_references check_no optional_references_in
+returns-then-present c = let e = sym c.load_flag-present.ensures ∙ c.if-present.true in search checking depth 12
+
+pub returns : goal.returns
+unfolding optional_references check_no optional_references_in
+returns c = let e = sym c.load_flag-present.ensures ∙ c.if-present.false in search checking depth 12

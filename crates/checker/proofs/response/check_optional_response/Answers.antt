@@ -1,0 +1,15 @@
+-- `checker::response::check_optional_response` meets its contract. Assumes nothing.
+use mathlib.Core.Path.{sym, ◌∙◌}
+use Rattle.codec.specs.Refusals.{check_no}
+use Rattle.codec.proofs.Compose.{checking}
+use Rattle.header.specs.Table.{optional_response}
+use Rattle.record_octets.specs.Record.{optional_response_in}
+use Rattle.checker.proofs.response.check_optional_response.Goals as goal
+
+pub returns-then-present : goal.returns-then-present
+unfolding optional_response check_no optional_response_in
+returns-then-present c = let e = sym c.load_flag-present.ensures ∙ c.if-present.true in search checking depth 12
+
+pub returns : goal.returns
+unfolding optional_response check_no optional_response_in
+returns c = let e = sym c.load_flag-present.ensures ∙ c.if-present.false in search checking depth 12

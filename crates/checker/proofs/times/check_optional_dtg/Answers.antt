@@ -1,0 +1,15 @@
+-- `checker::times::check_optional_dtg` meets its contract. Assumes nothing.
+use mathlib.Core.Path.{sym, ◌∙◌}
+use Rattle.codec.specs.Refusals.{check_no}
+use Rattle.codec.proofs.Compose.{checking}
+use Rattle.header.specs.Table.{optional_dtg}
+use Rattle.record_octets.specs.Record.{optional_dtg_in}
+use Rattle.checker.proofs.times.check_optional_dtg.Goals as goal
+
+pub returns-then-present : goal.returns-then-present
+unfolding optional_dtg check_no optional_dtg_in
+returns-then-present c = let e = sym c.load_flag-present.ensures ∙ c.if-present.true in search checking depth 12
+
+pub returns : goal.returns
+unfolding optional_dtg check_no optional_dtg_in
+returns c = let e = sym c.load_flag-present.ensures ∙ c.if-present.false in search checking depth 12

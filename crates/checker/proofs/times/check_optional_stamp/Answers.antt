@@ -1,0 +1,15 @@
+-- `checker::times::check_optional_stamp` meets its contract. Assumes nothing.
+use mathlib.Core.Path.{sym, ◌∙◌}
+use Rattle.codec.specs.Refusals.{check_no}
+use Rattle.codec.proofs.Compose.{checking}
+use Rattle.header.specs.Table.{optional_stamp}
+use Rattle.record_octets.specs.Record.{optional_stamp_in}
+use Rattle.checker.proofs.times.check_optional_stamp.Goals as goal
+
+pub returns-then-present : goal.returns-then-present
+unfolding optional_stamp check_no optional_stamp_in
+returns-then-present c = let e = sym c.load_flag-present.ensures ∙ c.if-present.true in search checking depth 12
+
+pub returns : goal.returns
+unfolding optional_stamp check_no optional_stamp_in
+returns c = let e = sym c.load_flag-present.ensures ∙ c.if-present.false in search checking depth 12

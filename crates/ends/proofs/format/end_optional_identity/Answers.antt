@@ -1,0 +1,25 @@
+-- `ends::format::end_optional_identity` meets its contract. Assumes nothing.
+use borrow.Author.Rules.{rules}
+use mathlib.Core.Path.{sym, ◌∙◌}
+use Rattle.codec.specs.Codec.{◌then_by◌, viewed, flag}
+use Rattle.codec.proofs.Compose.{present-size, absent-size}
+use Rattle.header.specs.Table.{identity, optional_identity}
+use Rattle.header.specs.Zero.{no_identity}
+use Rattle.record_octets.specs.Record.{optional_identity_in}
+use Rattle.ends.proofs.format.end_optional_identity.Goals as goal
+
+pub end_flag-behind-requires : goal.end_flag-behind-requires
+unfolding optional_identity ◌then_by◌ viewed flag optional_identity_in
+end_flag-behind-requires c = search rules
+
+pub end_identity-requires : goal.end_identity-requires
+unfolding optional_identity ◌then_by◌ viewed flag optional_identity_in
+end_identity-requires c = let e = present-size no_identity identity (optional_identity_in c.args.x.now).present (optional_identity_in c.args.x.now).identity (sym c.load_flag-present.ensures ∙ c.if-present.true) in search rules
+
+pub returns-then-present : goal.returns-then-present
+unfolding optional_identity ◌then_by◌ viewed flag optional_identity_in
+returns-then-present c = let e = present-size no_identity identity (optional_identity_in c.args.x.now).present (optional_identity_in c.args.x.now).identity (sym c.load_flag-present.ensures ∙ c.if-present.true) in search rules
+
+pub returns : goal.returns
+unfolding optional_identity ◌then_by◌ viewed flag optional_identity_in
+returns c = let e = absent-size no_identity identity (optional_identity_in c.args.x.now).present (optional_identity_in c.args.x.now).identity (sym c.load_flag-present.ensures ∙ c.if-present.false) in search rules

@@ -1,0 +1,28 @@
+-- `ends::front::end_addressees` meets its contract. Assumes nothing.
+use borrow.Author.Rules.{rules}
+use mathlib.Core.Path.{sym, ◌∙◌}
+use Rattle.codec.specs.Codec.{◌then_by◌, viewed, flag}
+use Rattle.codec.proofs.Compose.{present-size, absent-size}
+use Rattle.header.proofs.Legal.{addressees-legal}
+use Rattle.header.specs.Table.{addresses, recipients}
+use Rattle.header.specs.Zero.{no_addresses}
+use Rattle.record_octets.specs.Record.{optional_addresses_in}
+use Rattle.ends.proofs.front.end_addressees.Goals as goal
+
+pub end_flag-behind-requires : goal.end_flag-behind-requires
+unfolding recipients ◌then_by◌ viewed flag optional_addresses_in
+end_flag-behind-requires c = search rules
+
+pub end_addresses-requires : goal.end_addresses-requires
+unfolding recipients ◌then_by◌ viewed flag optional_addresses_in
+end_addresses-requires c =
+    let e = present-size no_addresses (addresses 15) (optional_addresses_in c.args.x.now).present (optional_addresses_in c.args.x.now).addresses (sym c.load_flag-present.ensures ∙ c.if-present.true) in
+    (search rules, addressees-legal (optional_addresses_in c.args.x.now) (sym c.load_flag-present.ensures ∙ c.if-present.true) c.requires.1, search rules)
+
+pub returns-then-present : goal.returns-then-present
+unfolding recipients ◌then_by◌ viewed flag optional_addresses_in
+returns-then-present c = let e = present-size no_addresses (addresses 15) (optional_addresses_in c.args.x.now).present (optional_addresses_in c.args.x.now).addresses (sym c.load_flag-present.ensures ∙ c.if-present.true) in search rules
+
+pub returns : goal.returns
+unfolding recipients ◌then_by◌ viewed flag optional_addresses_in
+returns c = let e = absent-size no_addresses (addresses 15) (optional_addresses_in c.args.x.now).present (optional_addresses_in c.args.x.now).addresses (sym c.load_flag-present.ensures ∙ c.if-present.false) in search rules

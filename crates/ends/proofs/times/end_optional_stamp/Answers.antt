@@ -1,0 +1,25 @@
+-- `ends::times::end_optional_stamp` meets its contract. Assumes nothing.
+use borrow.Author.Rules.{rules}
+use mathlib.Core.Path.{sym, ◌∙◌}
+use Rattle.codec.specs.Codec.{◌then_by◌, viewed, flag}
+use Rattle.codec.proofs.Compose.{present-size, absent-size}
+use Rattle.header.specs.Table.{optional_stamp, stamp}
+use Rattle.header.specs.Zero.{no_stamp}
+use Rattle.record_octets.specs.Record.{optional_stamp_in}
+use Rattle.ends.proofs.times.end_optional_stamp.Goals as goal
+
+pub end_flag-behind-requires : goal.end_flag-behind-requires
+unfolding optional_stamp ◌then_by◌ viewed flag optional_stamp_in
+end_flag-behind-requires c = search rules
+
+pub end_stamp-requires : goal.end_stamp-requires
+unfolding optional_stamp ◌then_by◌ viewed flag optional_stamp_in
+end_stamp-requires c = let e = present-size no_stamp stamp (optional_stamp_in c.args.x.now).present (optional_stamp_in c.args.x.now).stamp (sym c.load_flag-present.ensures ∙ c.if-present.true) in search rules
+
+pub returns-then-present : goal.returns-then-present
+unfolding optional_stamp ◌then_by◌ viewed flag optional_stamp_in
+returns-then-present c = let e = present-size no_stamp stamp (optional_stamp_in c.args.x.now).present (optional_stamp_in c.args.x.now).stamp (sym c.load_flag-present.ensures ∙ c.if-present.true) in search rules
+
+pub returns : goal.returns
+unfolding optional_stamp ◌then_by◌ viewed flag optional_stamp_in
+returns c = let e = absent-size no_stamp stamp (optional_stamp_in c.args.x.now).present (optional_stamp_in c.args.x.now).stamp (sym c.load_flag-present.ensures ∙ c.if-present.false) in search rules

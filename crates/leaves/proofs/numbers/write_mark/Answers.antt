@@ -1,0 +1,5 @@
+-- `leaves::numbers::write_mark` meets its contract. Assumes nothing.
+use Rattle.leaves.proofs.numbers.write_mark.Goals as goal
+
+pub returns : goal.returns
+returns c = rw c.load_flag-b.ensures at c.write_flag.ensures

@@ -1,0 +1,5 @@
+-- `order::compare_stamps` meets its contract. Assumes nothing.
+use Rattle.order.proofs.compare_stamps.Goals as goal
+
+pub returns : goal.returns
+returns c = rw (c.then_by.ensures, c.compare_optionals-extensions.ensures, c.compare_dtgs-dtgs.ensures)

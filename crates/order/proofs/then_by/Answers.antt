@@ -1,0 +1,16 @@
+-- `order::then_by` meets its contract. Assumes nothing.
+use borrow.Author.Rules.{rules}
+use Rattle.order.specs.Values.{comparison_of}
+use Rattle.order.proofs.then_by.Goals as goal
+
+pub returns-in-Less : goal.returns-in-Less
+unfolding comparison_of
+returns-in-Less c = search rules
+
+pub returns-in-Same : goal.returns-in-Same
+unfolding comparison_of
+returns-in-Same c = search rules
+
+pub returns-in-Greater : goal.returns-in-Greater
+unfolding comparison_of
+returns-in-Greater c = search rules
