@@ -1,4 +1,6 @@
 // What the arguments of a posting, a receipt or a release alone say: the refusals that need no table.
+#![tactic(auto)]
+
 ghost use Rattle.std.specs.Prelude.{◌≡◌, true, ◌&&◌, ◌+◌, ◌<◌, ◌≤◌, length};
 ghost use Rattle.codec.specs.Refusals.{check_no};
 ghost use Rattle.record_octets.specs.Record.{size_of_block, block_in, size_of_header, header_in};

@@ -1,5 +1,7 @@
 // One look at a table in lent octets, for any octets at all: whether it is well formed, and where the row with a key stands. Both in
 // one loop, so that each row is looked at once.
+#![tactic(auto)]
+
 ghost use Rattle.std.specs.Prelude.{◌≡◌, true, false, ◌<◌, ◌≤◌, length};
 ghost use Rattle.cells.specs.Cells.{many};
 ghost use Rattle.order.specs.Values.{key_of, by_key};

@@ -1,4 +1,6 @@
 // The listing of the table of pending messages, a row at a time into lent output.
+#![tactic(auto)]
+
 ghost use Rattle.std.specs.Prelude.{◌≡◌, true, ◌<◌, ◌≤◌, length, leb};
 ghost use Rattle.table.specs.Rows.{row_of, see};
 ghost use Rattle.table.specs.WellFormed.{well_formed};

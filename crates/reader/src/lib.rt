@@ -1,4 +1,6 @@
 // Reading a datagram into a record, which is lent octets, and handing back the user data behind the header.
+#![tactic(auto)]
+
 ghost use Rattle.std.specs.Prelude.{◌≡◌, eqb, length};
 ghost use Rattle.codec.specs.Refusals.{fault_no, finding_says};
 ghost use Rattle.header.specs.Rules.{◌⇒◌};

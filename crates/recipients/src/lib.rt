@@ -1,4 +1,6 @@
 // The recipients of a new row, and the new row itself, made where they lie. Every octet is determined: what is not used is 0.
+#![tactic(auto)]
+
 ghost use Rattle.std.specs.Prelude.{◌≡◌, true, List, ◌++◌, map, ◌+◌, ◌<◌, ◌≤◌, length, take};
 ghost use Rattle.std.proofs.Math.Option.{some};
 ghost use Rattle.header.specs.Table.{addresses};

@@ -1,4 +1,6 @@
 // One look at the message blocks of a record where they lie: at each block's fields, the rules, its size and its bits.
+#![tactic(auto)]
+
 ghost use Rattle.std.specs.Prelude.{◌≡◌, true, ◌+◌, length};
 ghost use Rattle.codec.specs.Refusals.{check_no, finding_says};
 ghost use Rattle.codec.specs.Writes.{Placed};

@@ -1,4 +1,6 @@
 // Writing a record as a header, and the check alone. A record is lent octets: any octets are some record.
+#![tactic(auto)]
+
 ghost use Rattle.std.specs.Prelude.{◌≡◌, length};
 ghost use Rattle.codec.specs.Refusals.{check_no, fault_no, finding_says};
 ghost use Rattle.record_octets.specs.Record.{size_of_header, header_in};

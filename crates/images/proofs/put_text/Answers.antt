@@ -10,4 +10,4 @@ use Rattle.images.proofs.put_text.Goals as goal
 
 pub returns : goal.returns
 unfolding text_in text_octets
-returns c = filled-all (filled_next 4 _ _ (filled_next 64 _ _ (filled_none 68 c.args.x.now c.requires.0) (omega arith) c.x-1.given.0 c.put_characters.ensures) (omega arith) c.x-2-1.given.0 c.Store-word.ensures) ∙ text-put _ _ _ (search rules) (c.used-n.ensures.0 ∙ ap (λ (n : ℕ). min n 64) c.load_word-len.ensures)
+returns c = filled-all (filled_next 4 _ _ (filled_next 64 _ _ (filled_none 68 c.args.x.now c.requires.0) (omega arith) c.x-1.given.0 c.put_characters.ensures) (omega arith) c.x-2-1.given.0 c.store_word.ensures) ∙ text-put _ _ _ (search rules) (c.used-n.ensures.0 ∙ ap (λ (n : ℕ). min n 64) c.load_word-len.ensures)

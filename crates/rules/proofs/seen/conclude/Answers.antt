@@ -1,5 +1,4 @@
 -- `rules::seen::conclude` meets its contract. Assumes nothing.
-use borrow.Author.Tests.{not-true, not-false}
 use mathlib.Core.Path.{◌≡◌, ap, sym, ◌∙◌}
 use native.Mathlib.Omega.{arith}
 use denote.Enum.Declared.{tag_of}
@@ -30,19 +29,19 @@ returns-in_default c = bad-says _ _ _ c.broken_rule-rule.ensures c.in_default.in
 pub returns-then-not-holds : goal.returns-then-not-holds
 unfolding concluded finding_says first_of
 returns-then-not-holds c =
-    let h = not-true c.args.holds c.if-not-holds.true in
+    let h = c.if-not-holds.true in
     fine-says c.broken_rule-rule.result _ _ _ c.broken_rule-rule.ensures c.in-Fine.in-Fine-own.keys1 (rw h)
 
 pub returns-then-not-sums : goal.returns-then-not-sums
 unfolding concluded finding_says first_of
 returns-then-not-sums c =
-    let h = not-false c.args.holds c.if-not-holds.false in
-    let t = sym c.both-sums.ensures ∙ not-true c.both-sums.result c.if-not-sums.true in
+    let h = c.if-not-holds.false in
+    let t = sym c.both-sums.ensures ∙ c.if-not-sums.true in
     fine-says c.broken_rule-rule.result _ _ _ c.broken_rule-rule.ensures c.in-Fine.in-Fine-own.keys1 (rw (h, t))
 
 pub returns : goal.returns
 unfolding concluded first_of
 returns c =
-    let h = not-false c.args.holds c.if-not-holds.false in
-    let t = sym c.both-sums.ensures ∙ not-false c.both-sums.result c.if-not-sums.false in
+    let h = c.if-not-holds.false in
+    let t = sym c.both-sums.ensures ∙ c.if-not-sums.false in
     fine-says c.broken_rule-rule.result _ _ _ c.broken_rule-rule.ensures c.in-Fine.in-Fine-own.keys1 (rw (h, t) c.wrong_body.ensures)

@@ -1,0 +1,22 @@
+-- `listing::has_room` meets its contract. Assumes nothing.
+use borrow.Author.Tests.{le-leb}
+use Prim.Native.Nat.{ℕ}
+use mathlib.Core.Path.{ap, sym}
+use native.Mathlib.Omega.{arith}
+use lib.ListN.{length}
+use lib.Dec.{leb}
+use Rattle.table.specs.Rows.{see}
+use Rattle.table.proofs.Parts.{fine-table}
+use Rattle.table_octets.specs.Table.{table_in}
+use Rattle.row_text.specs.Text.{listed}
+use Rattle.row_text.proofs.Bounded.{listed-bounded}
+use Rattle.listing.proofs.has_room.Goals as goal
+
+pub returns-then-room-ge-LONGEST : goal.returns-then-room-ge-LONGEST
+returns-then-room-ge-LONGEST c = sym (le-leb (length (listed (see (table_in c.args.t.now)) c.args.number)) c.args.room (omega (arith, listed-bounded (table_in c.args.t.now) c.args.number c.requires.0)))
+
+pub listed_length-size-requires : goal.listed_length-size-requires
+listed_length-size-requires c = ((fine-table (table_in c.args.t.now) c.requires.0).fits, c.requires.1)
+
+pub returns : goal.returns
+returns c = ap (λ (k : ℕ). leb k c.args.room) c.listed_length-size.ensures
