@@ -36,6 +36,7 @@ pub enum PendingFault {
 }
 
 // The number of a refusal.
+#[tactic(auto, unfolding(crate::specs::Told::pending_no))]
 pub fn pending_number(f: PendingFault) -> u32
     ensures { result ≡ pending_no f }
 {

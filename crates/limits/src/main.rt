@@ -3,6 +3,8 @@
 // and, where the refusal is about one, the block. The file stdout has what each has to be, counted from the
 // papers; the count stands beside the case, and the places of a header's fields beside the function of
 // `headers` that builds it.
+#![tactic(auto)]
+
 mod days;
 mod draft;
 mod groups;

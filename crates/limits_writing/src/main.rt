@@ -7,6 +7,8 @@
 // The counts begin with octets A, 33 bits: version 4; one for each of compression, G1, G2, G3 and the header
 // size, which are absent; and a block of 24: recurrence 1, UMF 4, standard version, G4, file name and message
 // size 1 each, the four codes 8, marking and G5 to G10 1 each.
+#![tactic(auto)]
+
 mod block;
 mod cases;
 mod days;

@@ -1,6 +1,8 @@
 // Posting, receipt and release on the table of pending messages, document 01's board, where its octets lie:
 // what the arguments name and what they alone say, and then the operation. A refusal leaves every octet as
 // it was.
+#![tactic(auto)]
+
 ghost use Rattle.std.specs.Prelude.{◌≡◌, []};
 ghost use Rattle.cells.specs.Cells.{zeros};
 ghost use Rattle.record_octets.specs.Record.{header_in};

@@ -1,6 +1,8 @@
 // What posting, receipt and release do to the octets of any table, once it is known what their arguments
 // say: a table that is not well formed is refused first, then what the arguments refuse, then what the rows
 // refuse, and only then does the first octet change.
+#![tactic(auto)]
+
 ghost use Rattle.std.specs.Prelude.{◌≡◌, true, map, ◌<◌, eqb, length, take};
 ghost use Rattle.codec.specs.Answer.{pick};
 ghost use Rattle.codec.specs.Verdict.{plain, first_of};

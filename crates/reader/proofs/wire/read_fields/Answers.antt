@@ -38,10 +38,10 @@ unfolding wire
 returns-in_default-step c = into-stop (record { front = no_front; size = no_number; blocks = no_blocks }) _ (search (shape-stop, here-stop, group-then-stop, group-stop, c.in_default-step.in_default-step-own.keys2, c.read_optional-a.ensures, c.in-Next.is, c.read_front-step.ensures.told) depth 14)
 
 pub read_blocks-step-requires : goal.read_blocks-step-requires
-read_blocks-step-requires c = (c.requires.0, ready-part 13636 (ready-next 4 (ready-next 2672 (ready-none 16312 c.args.h.now c.requires.1) (omega arith) _ _ c.h-1.given.0 (c.read_front-step.ensures.held _ c.in-Next.is).0) (omega arith) _ _ c.h-3-1.given.0 c.store_mark.ensures) (omega arith), ready-part-long 13636 (ready-next 4 (ready-next 2672 (ready-none 16312 c.args.h.now c.requires.1) (omega arith) _ _ c.h-1.given.0 (c.read_front-step.ensures.held _ c.in-Next.is).0) (omega arith) _ _ c.h-3-1.given.0 c.store_mark.ensures) (omega arith))
+read_blocks-step-requires c = (c.requires.0, ready-part 13636 (ready-next 4 (ready-next 2672 (ready-none 16312 c.args.h.now c.requires.1) (omega arith) _ _ c.h-1.given.0 (c.read_front-step.ensures.held _ c.in-Next.is).0) (omega arith) _ _ c.h-2-1.given.0 c.store_mark.ensures) (omega arith), ready-part-long 13636 (ready-next 4 (ready-next 2672 (ready-none 16312 c.args.h.now c.requires.1) (omega arith) _ _ c.h-1.given.0 (c.read_front-step.ensures.held _ c.in-Next.is).0) (omega arith) _ _ c.h-2-1.given.0 c.store_mark.ensures) (omega arith))
 
 pub shape_of-h : goal.shape_of-h
-shape_of-h c = c.h4.given.1 ∙ c.h-3-1.given.1 ∙ c.h-1.given.1
+shape_of-h c = c.h-3-1.given.1 ∙ c.h-2-1.given.1 ∙ c.h-1.given.1
 
 pub returns : goal.returns
 unfolding wire header_octets
@@ -50,4 +50,4 @@ returns c =
     let o = ready-put 2672 (ready-none 16312 c.args.h.now c.requires.1) (omega arith) _ _ c.h-1.given.0 f.0 in
     let v = version-read _ _ _ o f.1 c.front_version-version.ensures in
     let g = by-version _ _ _ _ v c.read_blocks-step.ensures.told in
-    into-tell (record { front = c.read_front-step.ensures.value; size = c.read_optional-a.result.number; blocks = c.read_blocks-step.ensures.value }) _ (search (tells-here, tells-group-then, tells-shape, g, c.in-Next-step.is, c.read_optional-a.ensures, c.in-Next.is, c.read_front-step.ensures.told) depth 14) (λ q e. (ready-all (ready-next 13636 (ready-next 4 (ready-next 2672 (ready-none 16312 c.args.h.now c.requires.1) (omega arith) _ _ c.h-1.given.0 (c.read_front-step.ensures.held _ c.in-Next.is).0) (omega arith) _ _ c.h-3-1.given.0 c.store_mark.ensures) (omega arith) _ _ c.h4.given.0 (c.read_blocks-step.ensures.held q e).0), (refl, record { front = (c.read_front-step.ensures.held _ c.in-Next.is).1; blocks = (c.read_blocks-step.ensures.held q e).1 })))
+    into-tell (record { front = c.read_front-step.ensures.value; size = c.read_optional-a.result.number; blocks = c.read_blocks-step.ensures.value }) _ (search (tells-here, tells-group-then, tells-shape, g, c.in-Next-step.is, c.read_optional-a.ensures, c.in-Next.is, c.read_front-step.ensures.told) depth 14) (λ q e. (ready-all (ready-next 13636 (ready-next 4 (ready-next 2672 (ready-none 16312 c.args.h.now c.requires.1) (omega arith) _ _ c.h-1.given.0 (c.read_front-step.ensures.held _ c.in-Next.is).0) (omega arith) _ _ c.h-2-1.given.0 c.store_mark.ensures) (omega arith) _ _ c.h-3-1.given.0 (c.read_blocks-step.ensures.held q e).0), (refl, record { front = (c.read_front-step.ensures.held _ c.in-Next.is).1; blocks = (c.read_blocks-step.ensures.held q e).1 })))
