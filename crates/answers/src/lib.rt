@@ -1,4 +1,6 @@
 // The answers of the calls as numbers: a host of another language has no enum of ours.
+#![tactic(auto)]
+
 ghost use Rattle.std.specs.Prelude.{◌≡◌};
 ghost use Rattle.reader.specs.Told.{told};
 ghost use Rattle.writer.specs.Writing as writer;

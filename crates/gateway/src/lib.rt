@@ -1,5 +1,7 @@
 // The calls for hosts in C and Rust: each is one call of the gateway, its record, table, key and octets lent,
 // its answer in plain numbers.
+#![tactic(auto)]
+
 ghost use Rattle.std.specs.Prelude.{◌≡◌, [], ◌-◌, length, drop};
 ghost use Rattle.reader.specs.Reading.{reading, user_data};
 ghost use Rattle.reader.specs.Told.{to_tell, record_after, Holds};

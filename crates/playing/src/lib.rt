@@ -1,4 +1,6 @@
 // What a datagram does to the table of pending messages.
+#![tactic(auto)]
+
 ghost use Rattle.std.specs.Prelude.{◌≡◌, length};
 ghost use Rattle.record_octets.specs.Record.{size_of_header, header_in};
 ghost use Rattle.table.specs.Rows.{see};

@@ -1,5 +1,4 @@
 -- `answers::of_reading` meets its contract. Assumes nothing.
-use borrow.Author.Rules.{rules}
 use mathlib.Core.Path.{◌≡◌, refl, ◌∙◌}
 use native.Mathlib.Omega.{arith}
 use denote.Enum.Declared.{tag_of}
@@ -9,8 +8,7 @@ use Rattle.reader.specs.declared.Outcome.{Outcome}
 use Rattle.reader.specs.contracts.Outcome as outcome
 use Rattle.answers.specs.Numbers.{sized, read_numbers}
 use Rattle.answers.specs.declared.SizeAnswer.{SizeAnswer}
-use Rattle.answers.proofs.of_reading.Statement.{statement}
-use Rattle.answers.proofs.of_reading.Tie as tie
+use Rattle.answers.proofs.of_reading.Goals as goal
 
 reading-done : (a : HeaderRead) → tag_of outcome.the_type a.outcome ≡ 0 → sized a.length.0 ≡ read_numbers (told a)
 unfolding read_numbers outcome_no outcome_place outcome_block
@@ -20,12 +18,9 @@ reading-done a t = go a.outcome t
     go Outcome.Done t = refl
     go (Outcome.Refused f p b) t = absurd (omega arith)
 
-returns : tie.Need-returns
-returns c = c.size.ensures ∙ reading-done c.before.before.before.args.a c.before.before.match.keys1
+pub returns-in-Done : goal.returns-in-Done
+returns-in-Done c = c.size.ensures ∙ reading-done c.args.a c.in-Done.in-Done-own.keys1
 
-returns-2 : tie.Need-returns-2
+pub returns-in-Refused : goal.returns-in-Refused
 unfolding read_numbers outcome_no outcome_place outcome_block
-returns-2 c = rw (c.before.before.outcome.given.1, c.fault-number.ensures)
-
-pub of-reading-spec : {M : Type 1} → statement M
-of-reading-spec = tie.close (tie.spec (λ c. search rules) (λ c κs. search rules) (λ c. search rules) (λ c κs. search rules) returns returns-2)
+returns-in-Refused c = rw (c.in-Refused.is, c.fault_number.ensures)

@@ -1,0 +1,6 @@
+-- `gateway::pruvelaccio_post_octets` meets its contract. Assumes nothing.
+use Rattle.answers.proofs.Numbered.{numbered}
+use Rattle.gateway.proofs.pruvelaccio_post_octets.Goals as goal
+
+pub returns : goal.returns
+returns c = numbered _ _ c.of_call.ensures c.post.ensures
