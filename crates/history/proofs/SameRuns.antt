@@ -52,10 +52,14 @@ module _ {a b : Arguments} {x y x' y' : List ℕ} {m n : Verdict} (d : Transitio
 
 pub run-answers : {x y e e' : List ℕ} {cs ds : List Arguments} {xs ys : List Verdict} {ts us : List (List ℕ)} → Run x cs xs ts e → Run y ds ys us e' → Forall₂ SameArguments cs ds → SameTable (table_in x) (table_in y) → xs ≡ ys
 run-answers stop stop c s = refl
+run-answers {y = y} (stop {t = t}) (call {cs = cs} {xs = xs} {ts = ts} d' r') c s = elim c [ ]
+run-answers {y = y} (call {t = t} {e = e} {cs = cs} {xs = xs} {ts = ts} d r) stop c s = elim c [ ]
 run-answers (call d r) (call d' r') (Forall₂.cons c cs) s = ap₂ ◌∷◌ (call-answer d d' c s) (run-answers r r' cs (call_same d d' c s))
 
 -- the tables before the first call and after each
 pub run-same : {x y e e' : List ℕ} {cs ds : List Arguments} {xs ys : List Verdict} {ts us : List (List ℕ)} → Run x cs xs ts e → Run y ds ys us e' → Forall₂ SameArguments cs ds → SameTable (table_in x) (table_in y)
     → Forall₂ (λ t u. SameTable (table_in t) (table_in u)) ts us
 run-same stop stop c s = Forall₂.cons s Forall₂.nil
+run-same {y = y} (stop {t = t}) (call {cs = cs} {xs = xs} {ts = ts} d' r') c s = elim c [ ]
+run-same {y = y} (call {t = t} {e = e} {cs = cs} {xs = xs} {ts = ts} d r) stop c s = elim c [ ]
 run-same (call d r) (call d' r') (Forall₂.cons c cs) s = Forall₂.cons s (run-same r r' cs (call_same d d' c s))

@@ -14,6 +14,6 @@ returns-in_default c = (played-refused c.args.datagram.now (table_in c.args.t.no
 pub returns : goal.returns
 returns c =
     let g = c.play_blocks.ensures in (
-      played-record c.args.datagram.now (table_in c.args.t.now) _ c.read-r.ensures.0 (outcome-done _ c.in-Done.in-Done-own.keys1) _ c.read-r.ensures.2 _ (ap (λ (x : List ℕ). length x) c.user_data-data.ensures) (table_in c.play_blocks.new.0) g.0,
+      played-record c.args.datagram.now (table_in c.args.t.now) _ c.read-r.ensures.0 (outcome-done _ c.in-Done.in-Done-own.keys1) _ c.read-r.ensures.2 _ (ap (λ (x : List ℕ). length x) c.user_data-data.ensures) (table_in c.play_blocks.new.t) g.0,
       g.1,
     )
