@@ -29,9 +29,9 @@ DIGESTS = {
 
 # kind: octets, meaning, octets of a value, words
 LEAVES = {
-    "word": (4, "wordIn", "wordOctets", "number"),
-    "flag": (1, "flagIn", "flagOctets", "flag"),
-    "mark": (4, "flagIn", "markOctets", "flag, then 3 unused"),
+    "word": (4, "word_in", "word_octets", "number"),
+    "flag": (1, "flag_in", "flag_octets", "flag"),
+    "mark": (4, "flag_in", "mark_octets", "flag, then 3 unused"),
     "chars": (64, None, None, "64 characters"),
     "unused": (1, None, None, "unused"),
 }
@@ -83,10 +83,6 @@ FIELDS = {name: fields for name, _, fields in STRUCTS}
 CRATE = {name: crate for name, crate, _ in STRUCTS}
 
 
-def low(name):
-    return name[0].lower() + name[1:]
-
-
 def snake(name):
     return "".join("_" + c.lower() if c.isupper() else c for c in name).lstrip("_")
 
@@ -133,6 +129,7 @@ def unraised():
 def constants(structs, what, sizes):
     out = """// The layout of the octets of %s: for each struct a module `in_..` with the place of each of its fields, counted from the struct's own first
 // octet, and END, its size; of a list also ENTRY, the size of an entry. A field ends where the next one starts. Written by layout/generate.py; what the octets mean is in specs/.
+#![tactic(auto)]
 """ % what
     for constant, name, words in sizes:
         out += "\n// The octets of %s.\npub const %s: usize = %d;\n" % (words, constant, size(name))
@@ -147,11 +144,11 @@ def constants(structs, what, sizes):
 # ---------------------------------------------------------------- crates/record_octets: meaning
 
 def cells(structs):
-    return "use Rattle·cells.specs.Cells.{part, %swordIn, wordOctets, flagIn, flagOctets, markOctets, many, manyOctets}\n" % ("zeros, " if structs is TABLE else "")
+    return "use Rattle.cells.specs.Cells.{part, %sword_in, word_octets, flag_in, flag_octets, mark_octets, many, many_octets}\n" % ("zeros, " if structs is TABLE else "")
 
 
 def declared(structs):
-    return "".join("use Rattle·%s.specs.declared.%s.{%s}\n" % (crate, name, name) for name, crate, _ in structs)
+    return "".join("use Rattle.%s.specs.declared.%s.{%s}\n" % (crate, name, name) for name, crate, _ in structs)
 
 
 def borrowed(structs):
@@ -169,7 +166,12 @@ def borrowed(structs):
 def used_from(structs, path, names):
     """what is used of the crate of a record's octets"""
     found = [each for name in borrowed(structs) for each in names(name)]
-    return "use Rattle·record_octets.%s.{%s}\n" % (path, ", ".join(found)) if found else ""
+    return "use Rattle.record_octets.%s.{%s}\n" % (path, ", ".join(found)) if found else ""
+
+
+def held(term):
+    """a term as an argument"""
+    return "(%s)" % term if " " in term else term
 
 
 def field_name(field):
@@ -177,15 +179,15 @@ def field_name(field):
 
 
 def means(kind):
-    return LEAVES[kind][1] if kind in LEAVES else low(kind) + "In"
+    return LEAVES[kind][1] if kind in LEAVES else snake(kind) + "_in"
 
 
 def gives(kind):
-    return LEAVES[kind][2] if kind in LEAVES else low(kind) + "Octets"
+    return LEAVES[kind][2] if kind in LEAVES else snake(kind) + "_octets"
 
 
 def in_and_octets(name):
-    return ["%sIn" % low(name), "%sOctets" % low(name)]
+    return ["%s_in" % snake(name), "%s_octets" % snake(name)]
 
 
 def meaning(kind, at, n):
@@ -200,10 +202,10 @@ def image(kind, field):
     if kind == "unused":
         return "zeros 1"
     if kind == "chars":
-        return "x .%s" % field
+        return "x.%s" % field
     if isinstance(kind, tuple):
-        return "manyOctets %s (x .%s)" % (gives(kind[0]), field)
-    return "%s (x .%s)" % (gives(kind), field)
+        return "many_octets %s x.%s" % (gives(kind[0]), field)
+    return "%s x.%s" % (gives(kind), field)
 
 
 def held_fields(name):
@@ -214,24 +216,23 @@ def held_fields(name):
 def octets_spec(structs, what):
     out = """-- What the octets of %s hold, and the octets of %s, struct by struct: each is about the octets that are the struct's own. Any octets are
 -- some %s. Written by layout/generate.py.
-use Prim.Native.Nat.{ℕ}
-use mathlib.Core.List.{List, _++_}
+use Rattle.std.specs.Prelude.{ℕ, List, ◌++◌}
 """ % (what, what, what.split()[1]) + cells(structs) + declared(structs) + used_from(structs, "specs.Record", in_and_octets)
     for name, _, fields in structs:
-        out += "\nabbrev pub sizeOf%s : ℕ\nsizeOf%s = %d\n" % (name, name, size(name))
-        out += "\nunfoldable pub %sIn : List ℕ → %s\n" % (low(name), name)
-        out += "%sIn s = record { %s }\n" % (low(name), "; ".join("%s = %s" % (f, meaning(k, at, n)) for f, k, at, n in held_fields(name)))
-        out += "\nunfoldable pub %sOctets : %s → List ℕ\n" % (low(name), name)
-        out += "%sOctets x = %s\n" % (low(name), " ++ ".join(image(k, f) for f, k in fields))
+        out += "\nabbrev pub size_of_%s : ℕ\nsize_of_%s = %d\n" % (snake(name), snake(name), size(name))
+        out += "\nunfoldable pub %s_in : List ℕ → %s\n" % (snake(name), name)
+        out += "%s_in s = record { %s }\n" % (snake(name), "; ".join("%s = %s" % (f, meaning(k, at, n)) for f, k, at, n in held_fields(name)))
+        out += "\nunfoldable pub %s_octets : %s → List ℕ\n" % (snake(name), name)
+        out += "%s_octets x = %s\n" % (snake(name), " ++ ".join(image(k, f) for f, k in fields))
         if structs is TABLE:
             for field, _, at, _ in held_fields(name):
-                out += "\nabbrev pub at%s%s : ℕ\nat%s%s = %d\n" % (name, field.capitalize(), name, field.capitalize(), at)
+                out += "\nabbrev pub at_%s_%s : ℕ\nat_%s_%s = %d\n" % (snake(name), field, snake(name), field, at)
         for field, kind, _, _ in places(name):
             if isinstance(kind, tuple):
-                out += "\nabbrev pub sizeOf%s%s : ℕ\nsizeOf%s%s = %d\n" % (name, field.capitalize(), name, field.capitalize(), size(kind))
+                out += "\nabbrev pub size_of_%s_%s : ℕ\nsize_of_%s_%s = %d\n" % (snake(name), field, snake(name), field, size(kind))
                 if [f for f, _ in fields] == ["list", "count"]:
-                    out += "\n-- of the octets of the list, and a count\nabbrev pub %sOf : List ℕ → ℕ → %s\n" % (low(name), name)
-                    out += "%sOf s n = record { list = many %s %d %d s; count = n }\n" % (low(name), means(kind[0]), size(kind[0]), kind[1])
+                    out += "\n-- of the octets of the list, and a count\nabbrev pub %s_of : List ℕ → ℕ → %s\n" % (snake(name), name)
+                    out += "%s_of s n = record { list = many %s %d %d s; count = n }\n" % (snake(name), means(kind[0]), size(kind[0]), kind[1])
     return out
 
 
@@ -255,23 +256,20 @@ def typed_name(name):
 def typed_spec(structs, whose):
     out = """-- What the declared types say of %s values, struct by struct: numbers are below 2^32, arrays have their cells. Every value that code holds is so
 -- (proofs/Declared.antt). Written by layout/generate.py.
-use Prim.Native.Nat.{ℕ, _<_}
-use mathlib.Core.Path.{_≡_}
-use mathlib.Core.List.{List}
-use lib.ListN.{length}
-use Rattle·cells.specs.Cells.{Each}
-""" % whose + "".join("use Rattle·%s.specs.declared.%s.{%s}\n" % (CRATE[n], n, n) for n in limits(structs)) + used_from(structs, "specs.Typed", typed_name)
+use Rattle.std.specs.Prelude.{ℕ, ◌<◌, ◌≡◌, List, length}
+use Rattle.cells.specs.Cells.{Each}
+""" % whose + "".join("use Rattle.%s.specs.declared.%s.{%s}\n" % (CRATE[n], n, n) for n in limits(structs)) + used_from(structs, "specs.Typed", typed_name)
     for name in limits(structs):
         out += "\npub record Typed%s (x : %s) : Type 0 where\n" % (name, name)
         for field, kind in FIELDS[name]:
             if kind == "word":
-                out += "  pub %s : x .%s < 4294967296\n" % (field, field)
+                out += "  pub %s : x.%s < 4294967296\n" % (field, field)
             elif kind == "chars":
-                out += "  pub %s : length (x .%s) ≡ 64\n" % (field, field)
+                out += "  pub %s : length x.%s ≡ 64\n" % (field, field)
             elif isinstance(kind, tuple):
-                out += "  pub %s : (length (x .%s) ≡ %d) × Each Typed%s (x .%s)\n" % (field, field, kind[1], kind[0], field)
+                out += "  pub %s : (length x.%s ≡ %d) × Each Typed%s x.%s\n" % (field, field, kind[1], kind[0], field)
             elif limited(kind):
-                out += "  pub %s : Typed%s (x .%s)\n" % (field, kind, field)
+                out += "  pub %s : Typed%s x.%s\n" % (field, kind, field)
     return out
 
 
@@ -282,31 +280,31 @@ def laws_of(kind, field):
     if kind == "unused":
         return "refl", None
     if kind == "word":
-        return "word-long (x .%s)" % field, "word-back (x .%s) (h .%s)" % (field, field)
+        return "word-long x.%s" % field, "word-back x.%s h.%s" % (field, field)
     if kind in ("flag", "mark"):
-        return "%s-long (x .%s)" % (kind, field), "%s-back (x .%s)" % (kind, field)
+        return "%s-long x.%s" % (kind, field), "%s-back x.%s" % (kind, field)
     if kind == "chars":
-        return "h .%s" % field, None
+        return "h.%s" % field, None
     if isinstance(kind, tuple):
         n = kind[0]
-        rest = "%sIn %sOctets Typed%s %d %s-long %s-back (x .%s) %d (h .%s .0) (h .%s .1)" % (low(n), low(n), n, size(n), low(n), low(n), field, kind[1], field, field)
+        rest = "%s_in %s_octets Typed%s %d %s-long %s-back x.%s %d h.%s.0 h.%s.1" % (snake(n), snake(n), n, size(n), snake(n), snake(n), field, kind[1], field, field)
         return "many-long " + rest, "many-back " + rest
-    rest = " (x .%s)" % field + (" (h .%s)" % field if limited(kind) else "")
-    return low(kind) + "-long" + rest, low(kind) + "-back" + rest
+    rest = " x.%s" % field + (" h.%s" % field if limited(kind) else "")
+    return snake(kind) + "-long" + rest, snake(kind) + "-back" + rest
 
 
 def back_proofs(structs, crate, module):
     out = """-- A struct's octets are as many as it has, and they hold the struct. Assumes nothing. Written by layout/generate.py.
-use Prim.Native.Nat.{ℕ, _+_}
-use mathlib.Core.Path.{_≡_, refl, sym, ap, _∙_}
-use mathlib.Core.List.{List, [], _++_}
+use Prim.Native.Nat.{ℕ, ◌+◌}
+use mathlib.Core.Path.{◌≡◌, refl, sym, ap, ◌∙◌}
+use mathlib.Core.List.{List, [], ◌++◌}
 use native.Mathlib.Omega.{arith}
 use lib.ListN.{length}
-""" + cells(structs) + """use Rattle·cells.proofs.Parts.{join, part-last, part-front, word-long, word-back, flag-long, flag-back, mark-long, mark-back, many-long, many-back}
+""" + cells(structs) + """use Rattle.cells.proofs.Parts.{join, part-last, part-front, word-long, word-back, flag-long, flag-back, mark-long, mark-back, many-long, many-back}
 """ + declared(structs)
-    out += used_from(structs, "specs.Record", in_and_octets) + used_from(structs, "proofs.Back", lambda n: [low(n) + "-long", low(n) + "-back"])
-    out += "use Rattle·%s·specs.specs.%s.{%s}\n" % (crate, module, ", ".join("%sIn, %sOctets" % (low(n), low(n)) for n, _, _ in structs))
-    out += "use Rattle·%s·specs.specs.Typed.{%s}\n" % (crate, ", ".join("Typed" + n for n in limits(structs)))
+    out += used_from(structs, "specs.Record", in_and_octets) + used_from(structs, "proofs.Back", lambda n: [snake(n) + "-long", snake(n) + "-back"])
+    out += "use Rattle.%s.specs.%s.{%s}\n" % (crate, module, ", ".join("%s_in, %s_octets" % (snake(n), snake(n)) for n, _, _ in structs))
+    out += "use Rattle.%s.specs.Typed.{%s}\n" % (crate, ", ".join("Typed" + n for n in limits(structs)))
     for name, _, fields in structs:
         given = "(x : %s)" % name + (" → Typed%s x" % name if limited(name) else "")
         named = "x h" if limited(name) else "x"
@@ -315,69 +313,68 @@ use lib.ListN.{length}
         front = ["[]"] + [" ++ ".join(images[:j + 1]) for j in range(len(images))]
         lets = ""
         for j, (field, kind, at, n) in enumerate(found):
-            lets += "    let l%d : length (%s) ≡ %d = %s in\n" % (j, images[j], n, laws_of(kind, field)[0])
-        lets += "    let p1 : length (%s) ≡ %d = l0 in\n" % (front[1], found[0][3])
+            lets += "    let l%d : length %s ≡ %d = %s in\n" % (j, held(images[j]), n, laws_of(kind, field)[0])
+        lets += "    let p1 : length %s ≡ %d = l0 in\n" % (held(front[1]), found[0][3])
         for j in range(1, len(found)):
             _, _, at, n = found[j]
-            lets += "    let p%d : length (%s) ≡ %d = join (%s) (%s) %d %d p%d l%d in\n" % (j + 1, front[j + 1], at + n, front[j], images[j], at, n, j, j)
-        out += "\npub %s-long : %s → length (%sOctets x) ≡ %d\nunfolding %sOctets\n%s-long %s =\n%s    p%d\n" % (
-            low(name), given, low(name), size(name), low(name), low(name), named, lets, len(found))
-        out += "\npub %s-back : %s → %sIn (%sOctets x) ≡ x\nunfolding %sIn %sOctets\n%s-back %s =\n%s" % (
-            low(name), given, low(name), low(name), low(name), low(name), low(name), named, lets)
+            lets += "    let p%d : length %s ≡ %d = join %s %s %d %d p%d l%d in\n" % (j + 1, held(front[j + 1]), at + n, held(front[j]), held(images[j]), at, n, j, j)
+        out += "\npub %s-long : %s → length (%s_octets x) ≡ %d\nunfolding %s_octets\n%s-long %s =\n%s    p%d\n" % (
+            snake(name), given, snake(name), size(name), snake(name), snake(name), named, lets, len(found))
+        out += "\npub %s-back : %s → %s_in (%s_octets x) ≡ x\nunfolding %s_in %s_octets\n%s-back %s =\n%s" % (
+            snake(name), given, snake(name), snake(name), snake(name), snake(name), snake(name), named, lets)
         last = len(found)
-        held = []
+        parts = []
         for j, (field, kind, at, n) in enumerate(found):
             if not field:
                 continue
-            steps = ["part-front (%s) (%s) %d %d %d p%d (omega arith)" % (front[q], images[q], found[q][2], at, n, q) for q in range(last - 1, j, -1)]
-            steps.append("part-last (%s) (%s) %d %d %s l%d" % (front[j], images[j], at, n, "p%d" % j if j else "refl", j))
-            out += "    let e%d : part %d %d (%s) ≡ %s = %s in\n" % (j, at, n, front[last], images[j], " ∙ ".join(steps))
+            steps = ["part-front %s %s %d %d %d p%d (omega arith)" % (held(front[q]), held(images[q]), found[q][2], at, n, q) for q in range(last - 1, j, -1)]
+            steps.append("part-last %s %s %d %d %s l%d" % (held(front[j]), held(images[j]), at, n, "p%d" % j if j else "refl", j))
+            out += "    let e%d : part %d %d %s ≡ %s = %s in\n" % (j, at, n, held(front[last]), images[j], " ∙ ".join(steps))
             back = laws_of(kind, field)[1]
             if kind == "chars":
-                held.append("%s = e%d i" % (field, j))
+                parts.append("%s = e%d i" % (field, j))
             elif isinstance(kind, tuple):
-                held.append("%s = (ap (many %s %d %d) e%d ∙ %s) i" % (field, means(kind[0]), size(kind[0]), kind[1], j, back))
+                parts.append("%s = (ap (many %s %d %d) e%d ∙ %s) i" % (field, means(kind[0]), size(kind[0]), kind[1], j, back))
             else:
-                held.append("%s = (ap %s e%d ∙ %s) i" % (field, means(kind), j, back))
-        out += "    λ i. record { %s }\n" % "; ".join(held)
+                parts.append("%s = (ap %s e%d ∙ %s) i" % (field, means(kind), j, back))
+        out += "    λ i. record { %s }\n" % "; ".join(parts)
     return out
 
 
 def declared_proofs(structs, crate):
     out = """-- Every value of a declared type is as its type says: what the type says of the machine's value says how large numbers are, and how many cells arrays
 -- have. Assumes nothing. Written by layout/generate.py.
-use mathlib.Core.List.{List, [], _∷_, map}
+use mathlib.Core.List.{List, [], ◌∷◌}
 use mir.Val.{Val}
 use denote.Array.{each}
 use denote.Laws.{Is}
 use denote.Shadow.{shadow}
 use denote.Struct.Declared as declared
-use Rattle·codec.proofs.ListLaws.{unmapped}
-use Rattle·cells.specs.Cells.{Each}
+use Rattle.cells.specs.Cells.{Each}
 """
     for name in limits(structs):
-        out += "use Rattle·%s.specs.declared.%s.{%s}\nuse Rattle·%s.proofs.%s as «%s»\n" % (CRATE[name], name, name, CRATE[name], name, low(name))
-    out += used_from(structs, "proofs.Declared", lambda n: [low(n) + "-typed"] if limited(n) else [])
-    out += "use Rattle·%s·specs.specs.Typed.{%s}\n" % (crate, ", ".join("Typed" + n for n in limits(structs)))
+        out += "use Rattle.%s.specs.declared.%s.{%s}\nuse Rattle.%s.specs.contracts.%s as «%s»\n" % (CRATE[name], name, name, CRATE[name], name, snake(name))
+    out += used_from(structs, "proofs.Declared", lambda n: [snake(n) + "-typed"] if limited(n) else [])
+    out += "use Rattle.%s.specs.Typed.{%s}\n" % (crate, ", ".join("Typed" + n for n in limits(structs)))
     entries = {kind[0] for fields in FIELDS.values() for _, kind in fields if isinstance(kind, tuple)}
     for name in limits(structs):
         parts = []
         for j, (field, kind, _, _) in enumerate(held_fields(name)):
-            at = "p .1 .1" + " .1" * j + " .0"
+            at = "p.1.1" + ".1" * j + ".0"
             if kind == "word":
-                parts.append("%s = %s .1" % (field, at))
+                parts.append("%s = %s.1" % (field, at))
             elif kind == "chars":
-                parts.append("%s = unmapped _ _ _ (x .%s) 64 (%s .1 .0 .1)" % (field, field, at))
+                parts.append("%s = %s.1.0.1" % (field, at))
             elif isinstance(kind, tuple):
-                parts.append("%s = (unmapped _ _ _ (x .%s) %d (%s .1 .0 .1), %s-each (x .%s) (%s .0) (%s .1 .1))" % (field, field, kind[1], at, low(kind[0]), field, at, at))
+                parts.append("%s = (%s.1.0.1, %s-each x.%s %s.0 %s.1.1)" % (field, at, snake(kind[0]), field, at, at))
             elif limited(kind):
-                parts.append("%s = %s-typed (x .%s) _ (%s)" % (field, low(kind), field, at))
-        out += "\npub %s-typed : (x : %s) (vs : List Val) → Is (declared.row «%s».the-type) x vs → Typed%s x\n%s-typed x vs p = record { %s }\n" % (
-            low(name), name, low(name), name, low(name), "; ".join(parts))
+                parts.append("%s = %s-typed x.%s _ %s" % (field, snake(kind), field, at))
+        out += "\npub %s-typed : (x : %s) (vs : List Val) → Is (declared.row «%s».the_type) x vs → Typed%s x\n%s-typed x vs p = record { %s }\n" % (
+            snake(name), name, snake(name), name, snake(name), "; ".join(parts))
         if name in entries:
-            the = "«%s».the-field" % low(name)
-            out += "\n%s-each : (l : List %s) (us : List Val) → shadow (each (%s .row .Denot) (%s .row .own) (map (%s .into) l) us) → Each Typed%s l\n" % (low(name), name, the, the, the, name)
-            out += "%s-each [] us s = tt\n%s-each (x ∷ l) [] s = absurd s\n%s-each (x ∷ l) (u ∷ us) s = (%s-typed x _ (s .0), %s-each l us (s .1))\n" % ((low(name),) * 5)
+            the = "«%s».the_row" % snake(name)
+            out += "\n%s-each : (l : List %s) (us : List Val) → shadow (each (%s).Denot (%s).own_val l us) → Each Typed%s l\n" % (snake(name), name, the, the, name)
+            out += "%s-each [] us s = tt\n%s-each (x ∷ l) [] s = absurd s\n%s-each (x ∷ l) (u ∷ us) s = (%s-typed x _ s.0, %s-each l us s.1)\n" % ((snake(name),) * 5)
     return out
 
 
@@ -467,13 +464,13 @@ constants of `crates/record_octets` and `crates/table_octets`, their definitions
 
 This is layout %d. The library exports its number, a program of another layout does not link with it, and what is saved begins with it.
 
-A record is %s octets. Any octets are some record: `headerIn` of `crates/record_octets/specs/Record.antt` says which one. A number is four
+A record is %s octets. Any octets are some record: `header_in` of `crates/record_octets/specs/Record.antt` says which one. A number is four
 octets, the low one first. A flag is one octet, set unless it is 0. A character is one octet. What a record holds where nothing is
 present, and behind a count, is unused and carries no meaning; neither do the octets between a flag and the number behind it. A record
-that `read` fills has 0 in all of them (`headerOctets`).
+that `read` fills has 0 in all of them (`header_octets`).
 
-A table of pending messages is %s octets, and a key %s. Any octets are some table: `tableIn` of `crates/table_octets/specs/Table.antt` says
-which one, and `keyIn` which key. What lies behind a count carries no meaning.
+A table of pending messages is %s octets, and a key %s. Any octets are some table: `table_in` of `crates/table_octets/specs/Table.antt` says
+which one, and `key_in` which key. What lies behind a count carries no meaning.
 
 The places below count from the struct's own first octet. The structs are those of `crates/table`, `crates/order`, `crates/header`,
 `crates/text` and `crates/optional`, of `include/pruvelaccio.h` and of the Rust crate.

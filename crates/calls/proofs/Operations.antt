@@ -2,19 +2,18 @@
 -- may change places. Assumes nothing but the laws of the rules (`Lawful`).
 use mathlib.Core.Path.{◌≡◌, refl, sym, ap, ◌∙◌}
 use mathlib.Core.Logic.{◌≢◌, ◌⊎◌, inl, inr}
-use mathlib.Core.List.{List, [], ◌∷◌, map}
+use mathlib.Core.List.{List, [], map}
 use mathlib.Core.Option.{Option, none, some}
-use Prim.Native.Nat.{ℕ, ◌+◌, ◌≤◌}
-use native.Mathlib.Omega.{arith}
+use Prim.Native.Nat.{ℕ}
 use lib.ListN.{length}
 use Rattle.calls.specs.Keyed.{find, put, sort, InOrder, arrival}
 use Rattle.calls.specs.Runs.{final, answers, states, Changed}
-use Rattle.calls.specs.Machine.{after, step}
-use Rattle.calls.specs.Operations.{Operation, post, receipt, release, key, Rules, Rows, State, Call, entered, patched, received, released, act, on_table, posting, writing, receiving, releasing, sheet, Apart, refused_first, refused_second, messages, answerers, Steady, Like, left, left_by, Independent}
+use Rattle.calls.specs.Machine.{step}
+use Rattle.calls.specs.Operations.{Operation, post, receipt, release, key, Rules, State, Call, entered, patched, received, released, act, on_table, posting, writing, receiving, releasing, sheet, Apart, refused_first, refused_second, messages, answerers, Steady, Like, left, left_by, Independent}
 use Rattle.calls.proofs.Orders.{Order}
-use Rattle.calls.proofs.Keyed.{sorted, arrived, held, length-put, put-find, find-arrival, put-takes-out, put-adds, put-changes}
-use Rattle.calls.proofs.Runs.{Swaps, change, keeps, same-answers, same-final, same-views}
-use Rattle.calls.proofs.Machine.{pair, step-in-order, stays, Alike, alike-step, alike-sort, empty-alike, apart-swaps, cell-swaps, Commute}
+use Rattle.calls.proofs.Keyed.{sorted, arrived, put-find, find-arrival, put-takes-out, put-adds, put-changes}
+use Rattle.calls.proofs.Runs.{Swaps, change, same-answers, same-final, same-views}
+use Rattle.calls.proofs.Machine.{pair, step-in-order, stays, Alike, alike-step, alike-sort, empty-alike, apart-swaps, cell-swaps}
 
 pub record Lawful {K W P A L : Type 0} (R : Rules K W P A L) : Type 0 where
   pub order : Order R.cmp

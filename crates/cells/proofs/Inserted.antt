@@ -181,8 +181,8 @@ module _ {A : Type 0} (to : A → List ℕ) where
     long-drop (suc n) [] g = tt
     long-drop (suc n) (x ∷ l) g = long-drop n l g.1
 
-    front_long : (n : ℕ) (l : List A) → n ≤ length l → Long to w l → length (many_octets to (take n l)) ≡ n * w
-    front_long n l h g = let e : length (take n l) ≡ n = length-take-le n l h in long-octets to w (take n l) (long-take n l g) ∙ rw e (omega arith)
+    front-long : (n : ℕ) (l : List A) → n ≤ length l → Long to w l → length (many_octets to (take n l)) ≡ n * w
+    front-long n l h g = let e : length (take n l) ≡ n = length-take-le n l h in long-octets to w (take n l) (long-take n l g) ∙ rw e (omega arith)
 
     back_long : (n : ℕ) (l : List A) → Long to w l → length (many_octets to (drop n l)) ≡ (length l - n) * w
     back_long n l g = let e : length (drop n l) ≡ length l - n = length-drop n l in long-octets to w (drop n l) (long-drop n l g) ∙ rw e (omega arith)
@@ -199,7 +199,7 @@ module _ {A : Type 0} (to : A → List ℕ) where
         let a : many_octets to (l ++ y ∷ r) ≡ p ++ (q ++ (to y ++ m)) = octets-append l (y ∷ r) ∙ ap (λ (t : List ℕ). t ++ (to y ++ m)) e ∙ append_assoc p q (to y ++ m) in
         let b : many_octets to ((take at l ++ x ∷ drop at l) ++ r) ≡ p ++ (to x ++ (q ++ m)) =
         octets-append (take at l ++ x ∷ drop at l) r ∙ ap (λ (t : List ℕ). t ++ m) (octets-append (take at l) (x ∷ drop at l)) ∙ append_assoc p (to x ++ q) m ∙ ap (λ (t : List ℕ). p ++ t) (append_assoc (to x) q m) in
-        ap (inserted_at w (length l) at (to x)) a ∙ inserted-joined w (length l) at p q (to y) m (to x) (front_long at l h g) (back_long at l g) k h ∙ sym b
+        ap (inserted_at w (length l) at (to x)) a ∙ inserted-joined w (length l) at p q (to y) m (to x) (front-long at l h g) (back_long at l g) k h ∙ sym b
 
     -- one taken out: its place becomes a free one behind the others
     pub octets-removed : (l r : List A) (at : ℕ) (z : A) → at < length l → Long to w l → to z ≡ zeros w
@@ -211,7 +211,7 @@ module _ {A : Type 0} (to : A → List ℕ) where
         let y : List ℕ = many_octets to (take 1 (drop at l)) in
         let m : List ℕ = many_octets to r in
         let d : length (drop at l) ≡ length l - at = length-drop at l in
-        let v : length y ≡ w = front_long 1 (drop at l) (omega arith) (long-drop at l g) ∙ omega arith in
+        let v : length y ≡ w = front-long 1 (drop at l) (omega arith) (long-drop at l g) ∙ omega arith in
         let c : drop at l ≡ take 1 (drop at l) ++ drop (at + 1) l = sym (take-append-drop 1 (drop at l)) ∙ ap (λ (t : List A). take 1 (drop at l) ++ t) (drop-drop 1 at l) in
         let e : many_octets to l ≡ p ++ (y ++ q) = ap (many_octets to) (sym (take-append-drop at l)) ∙ octets-append (take at l) (drop at l)
         ∙ ap (λ (t : List ℕ). p ++ t) (ap (many_octets to) c ∙ octets-append (take 1 (drop at l)) (drop (at + 1) l)) in
@@ -219,7 +219,7 @@ module _ {A : Type 0} (to : A → List ℕ) where
         let b : many_octets to ((take at l ++ drop (at + 1) l) ++ z ∷ r) ≡ p ++ (q ++ (zeros w ++ m)) =
         octets-append (take at l ++ drop (at + 1) l) (z ∷ r) ∙ ap (λ (t : List ℕ). t ++ (to z ++ m)) (octets-append (take at l) (drop (at + 1) l)) ∙ append_assoc p q (to z ++ m)
         ∙ ap (λ (t : List ℕ). p ++ (q ++ (t ++ m))) k in
-        ap (removed_at w (length l) at) a ∙ removed-joined w (length l) at p y q m (front_long at l (omega arith) g) v (back_long (at + 1) l g) h ∙ sym b
+        ap (removed_at w (length l) at) a ∙ removed-joined w (length l) at p y q m (front-long at l (omega arith) g) v (back_long (at + 1) l g) h ∙ sym b
 
 -- ---- the things that octets hold
 

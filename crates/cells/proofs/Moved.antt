@@ -1,12 +1,12 @@
 -- Things of w octets each: those of a beginning, of a copy put in, and of one replaced. Assumes nothing.
 use Prim.Native.Nat.{ℕ, zero, suc, ◌+◌, ◌-◌, ◌*◌, ◌<◌, ◌≤◌}
 use mathlib.Core.Path.{◌≡◌, refl, sym, ap, ◌∙◌}
-use mathlib.Core.List.{List, [], ◌∷◌, ◌++◌, append_assoc}
+use mathlib.Core.List.{List, [], ◌∷◌, ◌++◌}
 use native.Mathlib.Nat.{suc-mul, add-mul}
 use native.Mathlib.Omega.{arith}
-use lib.ListN.{length, take, drop, set, get_or, length-drop, length-append}
+use lib.ListN.{length, take, drop, set, length-drop}
 use lib.Seq.{take-append-le, drop-append-le, take-take, drop-drop, length-take-le, take-nil, drop-nil, take_all, paste, length_paste_head, append_snoc, set_split}
-use Rattle.cells.specs.Cells.{part, replaced, many}
+use Rattle.cells.specs.Cells.{replaced, many}
 use Rattle.cells.proofs.Replaced.{replaced-paste}
 use Rattle.cells.proofs.Lists.{many-count}
 

@@ -4,7 +4,7 @@ use mathlib.Core.Path.{◌≡◌, refl, sym, ap, ◌∙◌}
 use mathlib.Core.List.{List, [], ◌∷◌, ◌++◌, append_assoc}
 use native.Mathlib.Omega.{arith}
 use lib.ListN.{length, take, drop, get_or, length-drop, length-append}
-use lib.Seq.{take-take, drop-drop, length-take-le, get_or-take, get_or-drop, take-nil, drop-nil, paste, take_all, take_at, drop_at, length-paste, take-append-le, take-append-add, drop-append-le}
+use lib.Seq.{take-take, drop-drop, length-take-le, get_or-take, get_or-drop, take-nil, paste, take_all, take_at, drop_at, length-paste, take-append-le, take-append-add, drop-append-le}
 use Rattle.cells.specs.Cells.{part, replaced}
 
 pub part_length : (at n : ℕ) (s : List ℕ) → at + n ≤ length s → length (part at n s) ≡ n

@@ -1,11 +1,10 @@
 -- Octets moved within the slice that they lie in: what is left is a copy. Assumes nothing.
-use Prim.Native.Nat.{ℕ, zero, suc, ◌+◌, ◌-◌, ◌<◌, ◌≤◌}
+use Prim.Native.Nat.{ℕ, suc, ◌+◌, ◌-◌, ◌<◌, ◌≤◌}
 use mathlib.Core.Path.{◌≡◌, refl, sym, ap, ◌∙◌}
-use mathlib.Core.List.{List, [], ◌∷◌, ◌++◌, append_assoc, append-nil}
-use native.Mathlib.Numerals.{add-one}
+use mathlib.Core.List.{List, [], ◌∷◌, ◌++◌, append_assoc}
 use native.Mathlib.Omega.{arith}
 use lib.ListN.{length, take, drop, set, get_or, length-set, length-drop, length-append, get_or-append}
-use lib.Seq.{paste, paste-zero, paste-suc, length-paste, drop-paste, get_or-drop, get_or-take, length-take-le, drop-cons, take-suc, set-append_left, set_at}
+use lib.Seq.{paste, paste-zero, paste-suc, drop-paste, get_or-drop, get_or-take, length-take-le, drop-cons, take-suc, set_at}
 
 module _ {A : Type 0} where
   -- a cell behind the copy

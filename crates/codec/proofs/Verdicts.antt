@@ -3,7 +3,7 @@ use Prim.Native.Nat.{ℕ, zero, suc, ◌<◌}
 use mathlib.Core.Path.{◌≡◌, refl}
 use native.Mathlib.Omega.{arith}
 use Rattle.codec.specs.Codec.{first}
-use Rattle.codec.specs.Verdict.{Verdict, in_block, plain, fine, whether, first_of}
+use Rattle.codec.specs.Verdict.{Verdict, in_block, plain, whether, first_of}
 
 -- nothing is refused at first
 pub first-none : (v w : Verdict) → v.number ≡ 0 → first_of v w ≡ w

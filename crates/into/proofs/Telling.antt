@@ -1,20 +1,19 @@
 -- How readings into octets make the reading of a group. The proofs of functions that go field by field cite the rule set. Assumes nothing.
 use Prim.Native.Nat.{ℕ}
-use mathlib.Core.Path.{◌≡◌, refl, ap, sym, ◌∙◌}
-use mathlib.Core.Bool.{Bool, true, false}
+use mathlib.Core.Path.{◌≡◌, ap, sym, ◌∙◌}
+use mathlib.Core.Bool.{Bool, true}
 use mathlib.Core.List.{List}
 use native.Mathlib.Omega.{arith}
 use denote.Enum.Declared.{tag_of}
 use Rattle.bits.specs.declared.BitPlace.{BitPlace}
-use Rattle.codec.specs.Answer.{got, refused, next}
+use Rattle.codec.specs.Answer.{next}
 use Rattle.codec.specs.Codec.{Codec, ◌then_by◌, viewed, present}
-use Rattle.codec.specs.Refusals.{fault_no, answer, number_answer, flag_answer}
-use Rattle.codec.specs.declared.Fault.{Fault}
+use Rattle.codec.specs.Refusals.{answer, number_answer, flag_answer}
 use Rattle.codec.specs.declared.Flag.{Flag}
 use Rattle.codec.specs.declared.Number.{Number}
 use Rattle.codec.specs.declared.Step.{Step}
 use Rattle.codec.specs.contracts.Step as step
-use Rattle.codec.proofs.Compose.{Gets, Stops, stopped, ended, group-got, number-got, flag-got}
+use Rattle.codec.proofs.Compose.{Gets, Stops, stopped, group-got, number-got, flag-got}
 use Rattle.into.specs.Into.{Into}
 
 -- the last step of a group says how the group's reading ends, with x beside it

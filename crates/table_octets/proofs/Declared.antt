@@ -29,13 +29,13 @@ recipient-each [] us s = tt
 recipient-each (x ∷ l) [] s = absurd s
 recipient-each (x ∷ l) (u ∷ us) s = (recipient-typed x _ s.0, recipient-each l us s.1)
 
-pub row_typed : (x : Row) (vs : List Val) → Is (declared.row «row».the_type) x vs → TypedRow x
-row_typed x vs p = record { key = key-typed x.key _ p.1.1.0; recipients = (p.1.1.1.1.0.1.0.1, recipient-each x.recipients p.1.1.1.1.0.0 p.1.1.1.1.0.1.1); count = p.1.1.1.1.1.0.1 }
+pub row-typed : (x : Row) (vs : List Val) → Is (declared.row «row».the_type) x vs → TypedRow x
+row-typed x vs p = record { key = key-typed x.key _ p.1.1.0; recipients = (p.1.1.1.1.0.1.0.1, recipient-each x.recipients p.1.1.1.1.0.0 p.1.1.1.1.0.1.1); count = p.1.1.1.1.1.0.1 }
 
 row-each : (l : List Row) (us : List Val) → shadow (each («row».the_row).Denot («row».the_row).own_val l us) → Each TypedRow l
 row-each [] us s = tt
 row-each (x ∷ l) [] s = absurd s
-row-each (x ∷ l) (u ∷ us) s = (row_typed x _ s.0, row-each l us s.1)
+row-each (x ∷ l) (u ∷ us) s = (row-typed x _ s.0, row-each l us s.1)
 
 pub table-typed : (x : Table) (vs : List Val) → Is (declared.row «table».the_type) x vs → TypedTable x
 table-typed x vs p = record { rows = (p.1.1.0.1.0.1, row-each x.rows p.1.1.0.0 p.1.1.0.1.1); count = p.1.1.1.0.1 }

@@ -180,9 +180,9 @@ recipients-typed l h g =
     let e : length (recipients_image l) ≡ 16 = simp length-append (omega arith) in
     (e, each_append TypedRecipient (map recipient_image l) (replicate (16 - length l) no_recipient) g (nones-typed (16 - length l)))
 
-pub row_typed : (x : Key × Row) → TypedKey (key_image x.0) → length x.1.1 ≤ 16 → Each TypedRecipient (map recipient_image x.1.1) → TypedRow (row_image x)
+pub row-typed : (x : Key × Row) → TypedKey (key_image x.0) → length x.1.1 ≤ 16 → Each TypedRecipient (map recipient_image x.1.1) → TypedRow (row_image x)
 unfolding row_image
-row_typed x k h g = record { key = k; recipients = recipients-typed x.1.1 h g; count = omega arith }
+row-typed x k h g = record { key = k; recipients = recipients-typed x.1.1 h g; count = omega arith }
 
 pub recipients-long : (l : List Recipient) → Each TypedRecipient l → Long recipient_octets 92 l
 recipients-long [] h = tt

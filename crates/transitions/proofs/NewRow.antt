@@ -33,7 +33,7 @@ use Rattle.table.specs.declared.Recipient.{Recipient}
 use Rattle.table.specs.declared.Row.{Row}
 use Rattle.table_octets.specs.Image.{key_image, recipient_image, recipients_image, row_image}
 use Rattle.table_octets.specs.Typed.{TypedKey, TypedRecipient, TypedRow}
-use Rattle.table_octets.proofs.Images.{Coded, image-of-ask, recipient-of-image, row-of-image, address-image-legal, row_typed}
+use Rattle.table_octets.proofs.Images.{Coded, image-of-ask, recipient-of-image, row-of-image, address-image-legal, row-typed}
 use Rattle.recipients.specs.Holds.{blanks_of}
 use Rattle.transitions.proofs.Marks.{well-recipient}
 
@@ -143,4 +143,4 @@ made-typed k a to key few legal each =
     let e : sort by_address (map (λ r. (r, blank)) (map address_of here)) ≡ blanks_of to = ap (sort by_address) (map-map (λ r. (r, blank)) address_of here) in
     let m : to.count ≤ 16 = count_most no_address address 16 15 to.list to.count legal in
     let n : length (sort by_address (map (λ r. (r, blank)) (map address_of here))) ≡ length (blanks_of to) = ap length e in
-    row_typed (k, make (ask_of a) (map address_of here)) key (omega (arith, few, m, n)) (subst (λ (l : List (Address × Mark)). Each TypedRecipient (map recipient_image l)) (sym e) each)
+    row-typed (k, make (ask_of a) (map address_of here)) key (omega (arith, few, m, n)) (subst (λ (l : List (Address × Mark)). Each TypedRecipient (map recipient_image l)) (sym e) each)

@@ -20,7 +20,7 @@ use Rattle.order.specs.Calls.{Row as Cells, written, reply, replied, mark}
 use Rattle.order.proofs.Orders.{by-address}
 use Rattle.order.proofs.Requests.{settle-well}
 use Rattle.cells.specs.Cells.{part, replaced, many, word_in, word_octets}
-use Rattle.cells.proofs.Parts.{word-long, word_back, join}
+use Rattle.cells.proofs.Parts.{word-long, word-back, join}
 use Rattle.cells.proofs.Lists.{many-at, many-count}
 use Rattle.cells.proofs.Replaced.{part_length, part-of-part, replaced-length, replaced-part, replaced-before}
 use Rattle.record_octets.specs.Record.{address_in}
@@ -117,9 +117,9 @@ module _ (x : List ℕ) (l : length x ≡ 92) (m : Mark) where
   pub marked-marks : (a : _) → WellMarked a m → mark_of (recipient_in (marked (some m) x)) ≡ m
   unfolding mark_of recipient_in codes_octets word_octets
   marked-marks a w =
-      let p : word_in (part 80 4 (marked (some m) x)) ≡ code_image m.machine = ap word_in (cell 0 (omega arith)) ∙ word_back (code_image m.machine) (machine-cell a m w).0 in
-      let q : word_in (part 84 4 (marked (some m) x)) ≡ code_image m.acknowledge = ap word_in (cell 4 (omega arith)) ∙ word_back (code_image m.acknowledge) (acknowledge-cell a m w).0 in
-      let r : word_in (part 88 4 (marked (some m) x)) ≡ code_image m.reply = ap word_in (cell 8 (omega arith)) ∙ word_back (code_image m.reply) (reply-cell a m w).0 in
+      let p : word_in (part 80 4 (marked (some m) x)) ≡ code_image m.machine = ap word_in (cell 0 (omega arith)) ∙ word-back (code_image m.machine) (machine-cell a m w).0 in
+      let q : word_in (part 84 4 (marked (some m) x)) ≡ code_image m.acknowledge = ap word_in (cell 4 (omega arith)) ∙ word-back (code_image m.acknowledge) (acknowledge-cell a m w).0 in
+      let r : word_in (part 88 4 (marked (some m) x)) ≡ code_image m.reply = ap word_in (cell 8 (omega arith)) ∙ word-back (code_image m.reply) (reply-cell a m w).0 in
       λ i. record {
         machine = (ap code_of p ∙ (machine-cell a m w).1) i;
         acknowledge = (ap code_of q ∙ (acknowledge-cell a m w).1) i;

@@ -8,7 +8,7 @@ use lib.Seq.{paste, length-paste}
 use Rattle.cells.specs.Cells.{part, replaced, zeros, many, word_in, word_octets, inserted_at, removed_at}
 use Rattle.cells.proofs.Inserted.{inserted-is, inserted-long, removed-is, removed-long}
 use Rattle.cells.proofs.Replaced.{part_length, part-of-replaced, replaced-length, replaced-part, replaced-before, replaced-behind}
-use Rattle.cells.proofs.Parts.{word-long, word_back}
+use Rattle.cells.proofs.Parts.{word-long, word-back}
 use Rattle.cells.proofs.Lists.{many-count}
 use Rattle.cells.proofs.Moved.{many-of-take, many-replaced}
 use Rattle.record_octets.specs.Record.{address_in, requests_in}
@@ -52,7 +52,7 @@ rows-32 s = ap length (rows_are s) ∙ many-count row_in 1592 32 s
 
 pub counted-count : (n : ℕ) (s : List ℕ) → length s ≡ 50948 → n < 4294967296 → (table_in (counted n s)).count ≡ n
 unfolding table_in
-counted-count n s l h = ap word_in (replaced-part 50944 4 s (word_octets n) (omega arith) (word-long n)) ∙ word_back n h
+counted-count n s l h = ap word_in (replaced-part 50944 4 s (word_octets n) (omega arith) (word-long n)) ∙ word-back n h
 
 pub counted-rows : (n : ℕ) (s : List ℕ) → length s ≡ 50948 → (table_in (counted n s)).rows ≡ many row_in 1592 32 s
 unfolding table_in

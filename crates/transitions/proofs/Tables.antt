@@ -37,7 +37,7 @@ use Rattle.table.proofs.Search.{length-see, row-held}
 use Rattle.table_octets.specs.Table.{row_in, row_octets, table_in}
 use Rattle.table_octets.specs.Typed.{TypedRow}
 use Rattle.table_octets.specs.Image.{key_image, row_image}
-use Rattle.table_octets.proofs.Back.{row-long, row_back}
+use Rattle.table_octets.proofs.Back.{row-long, row-back}
 use Rattle.arguments.specs.Arguments.{named}
 use Rattle.transitions.specs.Octets.{place_of, counted, settled, received, done_on, octets_after}
 use Rattle.transitions.specs.Transition.{Transition}
@@ -211,7 +211,7 @@ module _ (s : List ℕ) (l : length s ≡ 50948) where
           let rows : used_rows (table_in (counted (n + 1) u)) ≡ take p.at (used_rows t) ++ row_image (key_of k, new) ∷ drop p.at (used_rows t) =
           (λ i. take (c i) (counted-rows (n + 1) u ul i))
           ∙ used-inserted row_in 1592 32 n p.at o s q.1 q.2 (omega (arith, l)) ol
-          ∙ (λ i. take p.at (sym (used-rows s) i) ++ row_back (row_image (key_of k, new)) typed i ∷ drop p.at (sym (used-rows s) i)) in
+          ∙ (λ i. take p.at (sym (used-rows s) i) ++ row-back (row_image (key_of k, new)) typed i ∷ drop p.at (sym (used-rows s) i)) in
           let b = first_fine _ _ (ap (λ (v : Verdict). v.number) (sym e) ∙ z) in
           let w = passed (well_formed t) f (first_fine _ _ b.0).0 in
           let g = q.0 in

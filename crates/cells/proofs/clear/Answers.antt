@@ -1,5 +1,4 @@
 -- `cells::clear` meets its contract. The invariant: those before i are 0. Assumes nothing.
-use Prim.Native.Nat.{◌-◌}
 use native.Mathlib.Omega.{arith}
 use Rattle.cells.proofs.Stores.{cleared-none, cleared_more, cleared-all}
 use Rattle.cells.proofs.clear.Goals as goal

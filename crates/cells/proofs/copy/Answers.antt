@@ -1,5 +1,4 @@
 -- `cells::copy` meets its contract. Assumes nothing.
-use Prim.Native.Nat.{◌-◌}
 use native.Mathlib.Omega.{arith}
 use Rattle.cells.proofs.Copying.{copied_none, copied_more, copied_all}
 use Rattle.cells.proofs.copy.Goals as goal

@@ -1,5 +1,4 @@
 -- `cells::move_down` meets its contract. The invariant: those up to k have moved down. Assumes nothing.
-use Prim.Native.Nat.{◌-◌}
 use native.Mathlib.Omega.{arith}
 use Rattle.cells.proofs.Shift.{lowered_none, lowered-more, lowered-done}
 use Rattle.cells.proofs.move_down.Goals as goal

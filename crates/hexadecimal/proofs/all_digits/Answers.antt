@@ -1,6 +1,5 @@
 -- `hexadecimal::all_digits` meets its contract. The invariant: the characters from i on decide. Assumes nothing.
 use borrow.Author.Rules.{rules}
-use Prim.Native.Nat.{◌-◌}
 use Rattle.hexadecimal.proofs.Digits.{looked-none, looked-more, looked-bad, looked-all}
 use Rattle.hexadecimal.proofs.all_digits.Goals as goal
 

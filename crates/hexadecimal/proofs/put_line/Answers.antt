@@ -1,5 +1,4 @@
 -- `hexadecimal::put_line` meets its contract. The invariant: the first i octets are put. Assumes nothing.
-use Prim.Native.Nat.{◌-◌}
 use mathlib.Core.Path.{refl, sym}
 use native.Mathlib.Omega.{arith}
 use Rattle.hexadecimal.proofs.Filling.{filling-none, filling-more, filling-all, line-fits, octets-count}

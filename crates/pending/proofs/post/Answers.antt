@@ -7,7 +7,7 @@ use Rattle.order.specs.Calls.{Call}
 use Rattle.table_octets.specs.Table.{key_in, key_octets}
 use Rattle.table_octets.specs.Typed.{TypedKey}
 use Rattle.table_octets.specs.Image.{key_image}
-use Rattle.table_octets.proofs.Back.{key_back}
+use Rattle.table_octets.proofs.Back.{key-back}
 use Rattle.table_octets.proofs.Images.{key-of-image}
 use Rattle.arguments.specs.Arguments.{posting_key}
 use Rattle.arguments.specs.Told.{answer_says}
@@ -18,7 +18,7 @@ use Rattle.pending.proofs.post.Goals.{After-put_posting_key}
 
 -- the key that was put together
 key-is : (c : After-put_posting_key) → key_in c.put_posting_key.new.k ≡ key_image (key_of (posting_key (header_in c.args.h.now) (block_in c.block_at-block.result.now)))
-key-is c = ap key_in c.put_posting_key.ensures.0 ∙ key_back (key_image (key_of (posting_key (header_in c.args.h.now) (block_in c.block_at-block.result.now)))) c.put_posting_key.ensures.1
+key-is c = ap key_in c.put_posting_key.ensures.0 ∙ key-back (key_image (key_of (posting_key (header_in c.args.h.now) (block_in c.block_at-block.result.now)))) c.put_posting_key.ensures.1
 
 clean : (c : After-put_posting_key) → key_image (key_of (posting_key (header_in c.args.h.now) (block_in c.block_at-block.result.now))) ≡ key_image (key_of (key_in c.put_posting_key.new.k))
 clean c = ap key_image (sym (ap key_of (key-is c) ∙ key-of-image (key_of (posting_key (header_in c.args.h.now) (block_in c.block_at-block.result.now)))))

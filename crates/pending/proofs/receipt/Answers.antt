@@ -6,7 +6,7 @@ use Rattle.order.specs.Values.{key_of}
 use Rattle.order.specs.Calls.{Call}
 use Rattle.table_octets.specs.Table.{key_in}
 use Rattle.table_octets.specs.Image.{key_image}
-use Rattle.table_octets.proofs.Back.{key_back}
+use Rattle.table_octets.proofs.Back.{key-back}
 use Rattle.arguments.specs.Arguments.{receipt_key}
 use Rattle.arguments.specs.Told.{answer_says}
 use Rattle.transitions.specs.Transition.{Transition}
@@ -16,7 +16,7 @@ use Rattle.pending.proofs.receipt.Goals.{After-put_receipt_key}
 
 -- the key that was put together
 key-is : (c : After-put_receipt_key) → key_in c.put_receipt_key.new.k ≡ key_image (key_of (receipt_key (header_in c.args.h.now) (block_in c.block_at-block.result.now)))
-key-is c = ap key_in c.put_receipt_key.ensures.0 ∙ key_back (key_image (key_of (receipt_key (header_in c.args.h.now) (block_in c.block_at-block.result.now)))) c.put_receipt_key.ensures.1
+key-is c = ap key_in c.put_receipt_key.ensures.0 ∙ key-back (key_image (key_of (receipt_key (header_in c.args.h.now) (block_in c.block_at-block.result.now)))) c.put_receipt_key.ensures.1
 
 pub settle_row-requires : goal.settle_row-requires
 settle_row-requires c = (

@@ -1,5 +1,4 @@
 -- `text::read_text` meets its contract. The invariant: the characters so far are read into their cells. Assumes nothing.
-use Prim.Native.Nat.{◌-◌}
 use mathlib.Core.Path.{refl, sym, ◌∙◌, ap}
 use native.Mathlib.Omega.{arith}
 use Rattle.bits.specs.Bits.{bits_of}

@@ -18,7 +18,7 @@ use Rattle.order.specs.Calls.{make}
 use Rattle.table.specs.WellFormed.{well_formed}
 use Rattle.table_octets.specs.Table.{key_in, row_octets, table_in}
 use Rattle.table_octets.specs.Image.{key_image, row_image}
-use Rattle.table_octets.proofs.Back.{key-long, key_back}
+use Rattle.table_octets.proofs.Back.{key-long, key-back}
 use Rattle.arguments.specs.Arguments.{named}
 use Rattle.arguments.specs.Told.{pending_no, answer_says}
 use Rattle.transitions.specs.Octets.{counted}
@@ -33,7 +33,7 @@ key-112 : (c : Start) → length c.args.key.now ≡ 112
 key-112 c = ap (length {A = ℕ}) c.requires.1 ∙ key-long (key_image (key_of (key_in c.args.key.now))) c.requires.2
 
 clean : (c : Start) → key_image (key_of (key_in c.args.key.now)) ≡ key_in c.args.key.now
-clean c = sym (ap key_in c.requires.1 ∙ key_back (key_image (key_of (key_in c.args.key.now))) c.requires.2)
+clean c = sym (ap key_in c.requires.1 ∙ key-back (key_image (key_of (key_in c.args.key.now))) c.requires.2)
 
 pub inspect-seen-requires : goal.inspect-seen-requires
 inspect-seen-requires c = (c.requires.0, key-112 (goal.at.inspect-seen-requires c).Start)

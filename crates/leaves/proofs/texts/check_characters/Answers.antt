@@ -2,7 +2,6 @@
 use borrow.Author.Rules.{rules}
 use borrow.Author.Tests.{le-leb, lt-leb}
 use mathlib.Core.Path.{◌∙◌}
-use Prim.Native.Nat.{◌-◌}
 use native.Mathlib.Omega.{arith}
 use Rattle.codec.specs.Refusals.{check_no}
 use Rattle.text.proofs.Checking.{passed_none, passed-more, passed-all, check-long, check-none, check-bad, check-good}

@@ -1,6 +1,5 @@
 -- `leaves::texts::write_characters` meets its contract. The invariant: what is written behind the characters so far completes the text. Assumes nothing.
 use borrow.Author.Rules.{rules}
-use Prim.Native.Nat.{◌-◌}
 use mathlib.Core.Path.{◌≡◌}
 use native.Mathlib.Omega.{arith}
 use lib.ListN.{length}
