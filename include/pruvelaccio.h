@@ -1,6 +1,6 @@
 /*
  * The proved gateway for C and C++: reading and writing the application header of MIL-STD-2045-47001C, and
- * the table of messages that still owe answers. Link libgateway.a (`rt staticlib gateway`), on x86-64 with
+ * the table of messages that still owe answers. Link libgateway.a (`host/build`), on x86-64 with
  * the System V calling convention.
  *
  * Every call takes any input. Its answer has number 0, done, or the number of a refusal with its bit place

@@ -1,4 +1,4 @@
-// Links the proved field functions that `rt staticlib field_bench` writes below target/ of the repository. Without
+// Links the proved field functions that `host/build` writes below target/ of the repository. Without
 // that library the rest of the benchmark still builds; the part about fields then says what is missing.
 use std::path::PathBuf;
 

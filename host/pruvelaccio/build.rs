@@ -1,4 +1,4 @@
-// Links the proved library that `rt staticlib gateway` writes below target/ of the repository. It is not made here:
+// Links the proved library that `host/build` writes below target/ of the repository. It is not made here:
 // proving it takes minutes, and belongs in front of the build.
 use std::path::PathBuf;
 use std::process::exit;
@@ -11,7 +11,7 @@ fn main() {
     println!("cargo:rerun-if-changed={}", library.display());
     if !library.is_file() {
         eprintln!("The proved library is missing: {}", library.display());
-        eprintln!("Make it first, in {}:\n\n    rt staticlib gateway\n", repository.display());
+        eprintln!("Make it first, in {}:\n\n    host/build\n", repository.display());
         exit(1);
     }
     println!("cargo:rustc-link-search=native={}", folder.display());

@@ -1,3 +1,4 @@
+pub mod Behind
 pub mod Ready
 pub mod Telling
 pub mod Putting

@@ -1,38 +1,26 @@
 -- Octets that are filled from the left: behind what is there they are all 0. Assumes nothing.
 use Prim.Native.Nat.{ℕ, zero, suc, ◌+◌, ◌-◌, ◌≤◌}
 use mathlib.Core.Path.{◌≡◌, refl, sym, ap, ◌∙◌}
-use mathlib.Core.List.{List, [], ◌∷◌, ◌++◌, append_assoc, append-nil}
+use mathlib.Core.List.{List, [], ◌++◌, append_assoc, append-nil}
 use native.Mathlib.Omega.{arith}
 use lib.ListN.{length, take, drop, length-append}
 use lib.Seq.{take_at, drop_at}
 use borrow.Rule.Slice.PartMut.{put_mid, mid_of}
 use Rattle.cells.specs.Cells.{zeros}
+use Rattle.into.proofs.Behind.{behind}
+pub use Rattle.into.proofs.Behind.{Ready, zeros-add}
 
 pub zeros-long : (n : ℕ) → length (zeros n) ≡ n
 zeros-long zero = refl
 zeros-long (suc n) = ap suc (zeros-long n)
 
-pub zeros-add : (a b : ℕ) → zeros a ++ zeros b ≡ zeros (a + b)
-zeros-add zero b = let e : b ≡ 0 + b = omega arith in ap zeros e
-zeros-add (suc a) b = let e : suc (a + b) ≡ suc a + b = omega arith in ap (λ (l : List ℕ). 0 ∷ l) (zeros-add a b) ∙ ap zeros e
-
--- of n octets the first a are p, and the others 0
-pub record Ready (n : ℕ) (s : List ℕ) (a : ℕ) (p : List ℕ) : Type 0 where
-  pub is : s ≡ p ++ zeros (n - a)
-  pub long : length p ≡ a
-
 pub ready-none : (n : ℕ) (s : List ℕ) → s ≡ zeros n → Ready n s 0 []
 ready-none n s e = let z : n ≡ n - 0 = omega arith in record { is = e ∙ ap zeros z; long = refl }
 
 module _ {n a : ℕ} {s p : List ℕ} (k : ℕ) (f : Ready n s a p) (h : a + k ≤ n) where
-  behind : drop a s ≡ zeros k ++ zeros (n - (a + k))
-  behind =
-      let e : k + (n - (a + k)) ≡ n - a = omega arith in
-      ap (drop a) f.is ∙ drop_at p (zeros (n - a)) a f.long ∙ sym (zeros-add k (n - (a + k)) ∙ ap zeros e)
-
   -- the next k are 0, and are lent
   pub ready-part : mid_of a k s ≡ zeros k
-  ready-part = ap (take k) behind ∙ take_at (zeros k) (zeros (n - (a + k))) k (zeros-long k)
+  ready-part = ap (take k) (behind k f h) ∙ take_at (zeros k) (zeros (n - (a + k))) k (zeros-long k)
 
   pub ready-part-long : length (mid_of a k s) ≡ k
   ready-part-long = ap length ready-part ∙ zeros-long k
@@ -48,7 +36,7 @@ module _ {n a : ℕ} {s p : List ℕ} (k : ℕ) (f : Ready n s a p) (h : a + k �
   pub ready-next : (y z : List ℕ) → length y ≡ length (mid_of a k s) → y ≡ z → Ready n (put_mid a k s y) (a + k) (p ++ z)
   ready-next y z g e =
       let t : take a s ≡ p = ap (take a) f.is ∙ take_at p (zeros (n - a)) a f.long in
-      let d : drop k (drop a s) ≡ zeros (n - (a + k)) = ap (drop k) behind ∙ drop_at (zeros k) (zeros (n - (a + k))) k (zeros-long k) in
+      let d : drop k (drop a s) ≡ zeros (n - (a + k)) = ap (drop k) (behind k f h) ∙ drop_at (zeros k) (zeros (n - (a + k))) k (zeros-long k) in
       let l : length (p ++ z) ≡ length p + length z = length-append p z in
       let m : length z ≡ k = sym (ap length e) ∙ g ∙ ready-part-long in
       record {

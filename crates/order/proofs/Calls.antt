@@ -1,7 +1,7 @@
 -- The calls on the rows are those of the theory of the calls: whatever calls come, the table answers as the plain sheet does and holds its rows in key order; calls that have nothing
 -- to do with each other may change places; the rows stay well formed. Assumes nothing.
 use mathlib.Core.Path.{◌≡◌, refl, sym, ap, ◌∙◌}
-use mathlib.Core.Logic.{◌≢◌, ◌⊎◌, inl, inr}
+use mathlib.Core.Logic.{◌≢◌, inl, inr}
 use mathlib.Core.Bool.{Bool, true, false, cond}
 use mathlib.Core.List.{List, [], ◌∷◌, map}
 use mathlib.Core.Option
@@ -13,7 +13,7 @@ use lib.Dec.{T, leb}
 use borrow.Author.Tests.{lt-leb, leb-false}
 use Rattle.codec.specs.Verdict.{Verdict, fine}
 use Rattle.codec.specs.Verdict as verdict
-use Rattle.calls.specs.Keyed.{find, alter, sort, InOrder}
+use Rattle.calls.specs.Keyed.{find, sort, InOrder}
 use Rattle.calls.specs.Machine.{step}
 use Rattle.calls.specs.Operations as theory
 use Rattle.calls.specs.Operations.{post, receipt, release, key, line_free}

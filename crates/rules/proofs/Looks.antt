@@ -1,15 +1,15 @@
 -- The blocks looked at once, one after the other, for the rules and the sizes. Assumes nothing.
-use Prim.Native.Nat.{ℕ, ◌+◌, ◌-◌, ◌<◌, ◌≤◌, min}
-use mathlib.Core.Path.{◌≡◌, refl, ap, ap₂, sym, ◌∙◌}
+use Prim.Native.Nat.{ℕ, ◌+◌, ◌<◌, ◌≤◌, min}
+use mathlib.Core.Path.{◌≡◌, refl, ap, ◌∙◌}
 use mathlib.Core.Bool.{Bool, true, false, ◌&&◌}
 use mathlib.Core.List.{List, [], ◌∷◌, map}
 use lib.ListN.{length, take, get_or}
-use lib.Dec.{leb, eqb, lit<}
+use lib.Dec.{eqb, lit<}
 use borrow.Author.Tests.{leb-true, leb-false}
 use native.Mathlib.Omega.{arith}
 use Rattle.codec.specs.Answer.{pick}
-use Rattle.codec.specs.Verdict.{Verdict, plain, fine, first_of}
-use Rattle.header.specs.Order.{Rule, of_each, of_whole, over, in_order}
+use Rattle.codec.specs.Verdict.{plain, fine, first_of}
+use Rattle.header.specs.Order.{of_each, of_whole, over, in_order}
 use Rattle.header.specs.Rules.{rules, used_blocks}
 use Rattle.header.specs.Sizes.{total, shares, has_body, none_needless, size_rules, wrong_size, judgement}
 use Rattle.header.specs.declared.Block.{Block}
@@ -17,7 +17,7 @@ use Rattle.header.specs.declared.Blocks.{Blocks}
 use Rattle.header.specs.declared.Setting.{Setting}
 use Rattle.header.proofs.Kept.{rules-numbered}
 use Rattle.rules.specs.Ranks.{whole_rank}
-use Rattle.rules.specs.Sees.{share_of, share, alone_of, owned_rules, body_rules, Sees, Unseen, concluded}
+use Rattle.rules.specs.Sees.{share_of, alone_of, owned_rules, body_rules, Sees, Unseen, concluded}
 use Rattle.rules.specs.declared.seen.Seen.{Seen}
 use Rattle.rules.proofs.Over.{take-used}
 use Rattle.rules.proofs.Firsts.{Sought, sought-none, sought-more, sought-all}

@@ -16,7 +16,7 @@ use std::process::ExitCode;
 /// Whether the field functions could be compared: the library with them has to be there.
 fn fields(quick: bool) -> bool {
     if !cfg!(field_library) {
-        println!("field functions left out: no target/staticlib/libfield_bench.a (rt staticlib field_bench)");
+        println!("field functions left out: no target/staticlib/libfield_bench.a (host/build)");
         return false;
     }
     field::run(quick);

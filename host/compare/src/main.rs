@@ -140,7 +140,7 @@ fn compare(options: &Options) -> Result<Tally, String> {
     if !program::path().is_file() {
         let path = program::path();
         return Err(format!(
-            "{} is missing: build it with `rt check pending_list`",
+            "{} is missing: build it with `host/build`",
             path.display()
         ));
     }

@@ -1,5 +1,5 @@
 //! The proved gateway for Rust: reading and writing the application header of MIL-STD-2045-47001C, and the table
-//! of messages that still owe answers. Link `libgateway.a` (`rt staticlib gateway`).
+//! of messages that still owe answers. Link `libgateway.a` (`host/build`).
 //!
 //! Every call takes any input and answers with a result or one of the numbered refusals, which tells its bit place and
 //! its message block. A refusal changes nothing that was lent.

@@ -1,6 +1,5 @@
 -- `order::compare_characters` meets its contract. The invariant: the characters so far are the same in both. Assumes nothing.
 use borrow.Author.Rules.{rules}
-use Prim.Native.Nat.{◌-◌}
 use native.Mathlib.Omega.{arith}
 use Rattle.order.specs.Values.{comparison_of}
 use Rattle.order.proofs.Texts.{level-none, level-more, both_end, first_ends, second-ends, less-here, greater-here}

@@ -1,6 +1,5 @@
 -- `checker::references::check_entries` meets its contract. The invariant: the entries so far are legal. Assumes nothing.
 use borrow.Author.Rules.{rules}
-use Prim.Native.Nat.{◌-◌}
 use mathlib.Core.Path.{ap, ◌∙◌}
 use native.Mathlib.Omega.{arith}
 use Rattle.codec.specs.Codec.{viewed}

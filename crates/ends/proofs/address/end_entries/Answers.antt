@@ -1,6 +1,5 @@
 -- `ends::address::end_entries` meets its contract. The invariant: the entries so far end here. Assumes nothing.
 use borrow.Author.Rules.{rules}
-use Prim.Native.Nat.{◌-◌}
 use lib.Dec.{lit≤}
 use native.Mathlib.Omega.{arith}
 use Rattle.codec.specs.Codec.{viewed}

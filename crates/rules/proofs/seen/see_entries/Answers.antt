@@ -1,5 +1,5 @@
 -- `rules::seen::see_entries` meets its contract. The invariant: what the blocks so far show. Assumes nothing.
-use Prim.Native.Nat.{ℕ, ◌-◌}
+use Prim.Native.Nat.{ℕ}
 use mathlib.Core.Path.{sym, subst, ◌∙◌}
 use native.Mathlib.Omega.{arith}
 use Rattle.cells.proofs.Lists.{many-count, many-entry}
