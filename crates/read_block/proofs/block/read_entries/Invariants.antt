@@ -1,5 +1,5 @@
 -- `read_block::block::read_entries` meets its contract. The invariant: what is read behind the entries so far completes the list. Assumes nothing.
-use Prim.Native.Nat.{◌-◌, ◌<◌}
+use Prim.Native.Nat.{◌-◌}
 use mathlib.Core.Path.{◌≡◌, refl}
 use lib.Dec.{lit<}
 use Rattle.bits.specs.Bits.{bits_of}
