@@ -20,7 +20,7 @@ use Rattle.record_octets.specs.Record.{optional_number_octets, text_in, text_oct
 use Rattle.record_octets.specs.Typed.{TypedOptionalNumber, TypedAddress, TypedStamp}
 use Rattle.table_octets.specs.Table.{key_octets}
 use Rattle.table_octets.specs.Typed.{TypedKey}
-use Rattle.order.specs.Values.{urn, name, address_of, option_of, key_of}
+use Rattle.order.specs.Values.{name, address_of, option_of, key_of}
 use Rattle.order.specs.declared.Key.{Key}
 use Rattle.table_octets.specs.Image.{number_image, address_image, stamp_image, key_image}
 use Rattle.table_octets.proofs.Images.{urn-typed, name_typed, stamp-image}

@@ -1,6 +1,6 @@
 -- The rules and the sizes: what the reading makes of the verdict on them. Assumes nothing.
 use Prim.Native.Nat.{ℕ, zero, suc, ◌<◌}
-use mathlib.Core.Path.{◌≡◌, refl, ap, sym, ◌∙◌}
+use mathlib.Core.Path.{◌≡◌, refl}
 use native.Mathlib.Omega.{arith}
 use denote.Enum.Declared.{tag_of}
 use Rattle.codec.specs.Refusals.{fault_no, finding_says}
@@ -12,7 +12,7 @@ use Rattle.codec.specs.contracts.Finding as finding
 use Rattle.codec.proofs.Told.{fault-positive}
 use Rattle.header.specs.declared.Header.{Header}
 use Rattle.header.specs.declared.Wire.{Wire}
-use Rattle.reader.specs.Reading.{Reading, record_of, verdict_on, accepted_by, settled, accepted, rejected}
+use Rattle.reader.specs.Reading.{record_of, verdict_on, accepted_by, settled, accepted, rejected}
 
 fine-accepts : (x : Finding) (v : Verdict) (h : Header) (n : ℕ) → finding_says x ≡ v → tag_of finding.the_type x ≡ 0 → accepted_by v h n ≡ accepted h n
 unfolding accepted_by finding_says

@@ -1,6 +1,6 @@
 -- `survey::survey_entries` meets its contract. The invariant: the blocks so far are legal, and what they show. Assumes nothing.
 use borrow.Author.Rules.{rules}
-use Prim.Native.Nat.{ℕ, ◌-◌}
+use Prim.Native.Nat.{ℕ}
 use mathlib.Core.Path.{refl, ap, sym, subst, ◌∙◌}
 use native.Mathlib.Omega.{arith}
 use Rattle.bits.specs.declared.BitPlace.{BitPlace}

@@ -1,6 +1,5 @@
 -- `row_text::addresses::put_characters` meets its contract. The invariant: the characters so far are put. Assumes nothing.
 use borrow.Author.Rules.{rules}
-use Prim.Native.Nat.{◌-◌}
 use mathlib.Core.Path.{ap}
 use lib.ListN.{length}
 use Rattle.record_octets.specs.Record.{text_in}

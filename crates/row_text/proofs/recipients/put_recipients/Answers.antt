@@ -1,6 +1,5 @@
 -- `row_text::recipients::put_recipients` meets its contract. The invariant: the lines so far are put. Assumes nothing.
 use borrow.Author.Rules.{rules}
-use Prim.Native.Nat.{◌-◌}
 use mathlib.Core.Path.{ap, sym}
 use lib.ListN.{length}
 use native.Mathlib.Omega.{arith}

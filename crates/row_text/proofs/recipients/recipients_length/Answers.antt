@@ -1,6 +1,5 @@
 -- `row_text::recipients::recipients_length` meets its contract. The invariant: the lines so far are measured. Assumes nothing.
 use borrow.Author.Rules.{rules}
-use Prim.Native.Nat.{◌-◌}
 use mathlib.Core.Path.{ap, ◌∙◌}
 use lib.ListN.{length}
 use native.Mathlib.Omega.{arith}

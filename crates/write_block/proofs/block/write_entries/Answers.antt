@@ -1,6 +1,6 @@
 -- `write_block::block::write_entries` meets its contract. The invariant: what is written behind the entries so far completes the list. Assumes nothing.
 use borrow.Author.Rules.{rules}
-use Prim.Native.Nat.{ℕ, ◌-◌}
+use Prim.Native.Nat.{ℕ}
 use mathlib.Core.Path.{◌≡◌}
 use lib.Dec.{lit≤}
 use native.Mathlib.Omega.{arith}
