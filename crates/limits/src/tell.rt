@@ -2,74 +2,81 @@
 use crate::draft::Draft;
 use crate::summary;
 use crate::summary::Summary;
-use libc::STDOUT_FILENO;
+use std::io;
+use std::io::Write;
 
-pub fn print(text: &[u8]) {
-    io::write_all(STDOUT_FILENO, text);
+pub fn print(rt: &impl Print, text: &[u8]) -> io::Result<()> {
+    io::writer(rt).write_all(text)
 }
 
 // A value that is not the usual one, with its label.
-fn part(label: &[u8], n: u64, usual: u64) {
+fn part(rt: &impl Print, label: &[u8], n: u64, usual: u64) -> io::Result<()> {
     if n != usual {
-        print(label);
-        io::print_decimal(STDOUT_FILENO, n);
+        print(rt, label)?;
+        print!(rt; "{n}")?;
     }
+    Ok(())
 }
 
 // The block is told where the refusal is about one.
-fn print_refused(s: Summary) {
-    print(b": refused ");
-    io::print_decimal(STDOUT_FILENO, s.number);
-    print(b" at ");
-    io::print_decimal(STDOUT_FILENO, s.place);
-    part(b" in block ", s.block, 0);
-    print(b"\n");
+fn print_refused(rt: &impl Print, s: Summary) -> io::Result<()> {
+    print(rt, b": refused ")?;
+    print!(rt; "{}", s.number)?;
+    print(rt, b" at ")?;
+    print!(rt; "{}", s.place)?;
+    part(rt, b" in block ", s.block, 0)?;
+    print(rt, b"\n")?;
+    Ok(())
 }
 
-fn print_accepted(s: Summary) {
-    print(b": accepted ");
-    io::print_decimal(STDOUT_FILENO, s.header);
-    print(b" ");
-    io::print_decimal(STDOUT_FILENO, s.data);
-    part(b" name ", s.name, 0);
-    part(b" recipients ", s.recipients, 0);
-    part(b" information ", s.information, 0);
-    part(b" blocks ", s.blocks, 1);
-    part(b" references ", s.references, 0);
-    part(b" standard version ", s.standard, 16);
-    print(b"\n");
+fn print_accepted(rt: &impl Print, s: Summary) -> io::Result<()> {
+    print(rt, b": accepted ")?;
+    print!(rt; "{}", s.header)?;
+    print(rt, b" ")?;
+    print!(rt; "{}", s.data)?;
+    part(rt, b" name ", s.name, 0)?;
+    part(rt, b" recipients ", s.recipients, 0)?;
+    part(rt, b" information ", s.information, 0)?;
+    part(rt, b" blocks ", s.blocks, 1)?;
+    part(rt, b" references ", s.references, 0)?;
+    part(rt, b" standard version ", s.standard, 16)?;
+    print(rt, b"\n")?;
+    Ok(())
 }
 
 // Reads a datagram and prints its line.
-pub fn tell(name: &[u8], datagram: &[u8]) {
-    print(name);
+pub fn tell(rt: &impl Print, name: &[u8], datagram: &[u8]) -> io::Result<()> {
+    print(rt, name)?;
     let s = summary::summarise(datagram);
     if 0 < s.number {
-        print_refused(s);
-        return;
+        return print_refused(rt, s);
     }
-    print_accepted(s);
+    print_accepted(rt, s)?;
+    Ok(())
 }
 
-fn tell_first(name: &[u8], octets: [u8; 256], n: usize) {
+fn tell_first(rt: &impl Print, name: &[u8], octets: [u8; 256], n: usize) -> io::Result<()> {
     if n <= 256 {
-        tell(name, &octets[..n]);
+        tell(rt, name, &octets[..n])?;
     }
+    Ok(())
 }
 
 // The draft cut, or continued by zeros, to so many octets.
-pub fn cut(name: &[u8], d: Draft, octets: usize) {
+pub fn cut(rt: &impl Print, name: &[u8], d: Draft, octets: usize) -> io::Result<()> {
     let buffer = d.octets;
-    tell_first(name, buffer, octets);
+    tell_first(rt, name, buffer, octets)?;
+    Ok(())
 }
 
 // The draft with its fill bits and so many octets of user data.
-pub fn with_data(name: &[u8], d: Draft, data: usize) {
+pub fn with_data(rt: &impl Print, name: &[u8], d: Draft, data: usize) -> io::Result<()> {
     let buffer = d.octets;
     let header = bits::whole_octets(d.end).0;
     if header <= 256 {
         if data <= 256 {
-            tell_first(name, buffer, header + data);
+            tell_first(rt, name, buffer, header + data)?;
         }
     }
+    Ok(())
 }
