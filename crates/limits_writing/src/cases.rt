@@ -4,52 +4,64 @@ use crate::plan::{FLAG, PLAIN, Plan, changed, part};
 use crate::records::record;
 use crate::tell::{WHOLE, line, print, print_number};
 use record_octets::RECORD;
+use std::io;
 
 // A part of a case's name that is left out where the number is the usual one.
-fn unusual(label: &[u8], n: usize, usual: usize) {
+fn unusual(rt: &impl Print, label: &[u8], n: usize, usual: usize) -> io::Result<()> {
     if n != usual {
-        print(label);
-        print_number(n as u64);
+        print(rt, label)?;
+        print_number(rt, n as u64)?;
     }
+    Ok(())
 }
 
 // The octets of the record that belong to no cell hold rubbish.
-fn case(p: Plan, count: usize, room: usize, hex: bool) {
+fn case(rt: &impl Print, p: Plan, count: usize, room: usize, hex: bool) -> io::Result<()> {
     let mut h = [165u8; RECORD];
     record(p, &mut h);
-    line(&h, count, room, hex);
+    line(rt, &h, count, room, hex)?;
+    Ok(())
 }
 
-pub fn with_room(p: Plan, count: usize, room: usize) {
-    unusual(b", data ", count, 1);
-    unusual(b", room ", room, WHOLE);
-    case(p, count, room, false);
+pub fn with_room(rt: &impl Print, p: Plan, count: usize, room: usize) -> io::Result<()> {
+    unusual(rt, b", data ", count, 1)?;
+    unusual(rt, b", room ", room, WHOLE)?;
+    case(rt, p, count, room, false)?;
+    Ok(())
 }
 
-pub fn with_data(p: Plan, count: usize) {
-    with_room(p, count, WHOLE);
+pub fn with_data(rt: &impl Print, p: Plan, count: usize) -> io::Result<()> {
+    with_room(rt, p, count, WHOLE)
 }
 
-fn first(key: usize, value: u32) -> Plan {
-    part(key, value);
-    changed(PLAIN, key, value)
+fn first(rt: &impl Print, key: usize, value: u32) -> io::Result<Plan> {
+    part(rt, key, value)?;
+    Ok(changed(PLAIN, key, value))
 }
 
-fn then(p: Plan, key: usize, value: u32) -> Plan {
-    print(b", ");
-    part(key, value);
-    changed(p, key, value)
+fn then(rt: &impl Print, p: Plan, key: usize, value: u32) -> io::Result<Plan> {
+    print(rt, b", ")?;
+    part(rt, key, value)?;
+    Ok(changed(p, key, value))
 }
 
-pub fn one(key: usize, value: u32, count: usize) {
-    with_data(first(key, value), count);
+pub fn one(rt: &impl Print, key: usize, value: u32, count: usize) -> io::Result<()> {
+    with_data(rt, first(rt, key, value)?, count)
 }
 
-pub fn two(key: usize, value: u32, key2: usize, value2: u32, count: usize) {
-    with_data(then(first(key, value), key2, value2), count);
+pub fn two(
+    rt: &impl Print,
+    key: usize,
+    value: u32,
+    key2: usize,
+    value2: u32,
+    count: usize,
+) -> io::Result<()> {
+    with_data(rt, then(rt, first(rt, key, value)?, key2, value2)?, count)
 }
 
 pub fn three(
+    rt: &impl Print,
     key: usize,
     value: u32,
     key2: usize,
@@ -57,24 +69,33 @@ pub fn three(
     key3: usize,
     value3: u32,
     count: usize,
-) {
-    let p = then(first(key, value), key2, value2);
-    with_data(then(p, key3, value3), count);
+) -> io::Result<()> {
+    let p = then(rt, first(rt, key, value)?, key2, value2)?;
+    with_data(rt, then(rt, p, key3, value3)?, count)?;
+    Ok(())
 }
 
 // One change, and an output without an octet.
-pub fn without_room(key: usize, value: u32) {
-    with_room(first(key, value), 1, 0);
+pub fn without_room(rt: &impl Print, key: usize, value: u32) -> io::Result<()> {
+    with_room(rt, first(rt, key, value)?, 1, 0)
 }
 
 // A case with a name of its own and the header's octets.
-pub fn shown(name: &[u8], p: Plan, count: usize) {
-    print(name);
-    case(p, count, WHOLE, true);
+pub fn shown(rt: &impl Print, name: &[u8], p: Plan, count: usize) -> io::Result<()> {
+    print(rt, name)?;
+    case(rt, p, count, WHOLE, true)?;
+    Ok(())
 }
 
 // The same with another octet in every flag that is set.
-pub fn with_flags(name: &[u8], p: Plan, octet: u32, count: usize) {
-    print(name);
-    case(then(p, FLAG, octet), count, WHOLE, true);
+pub fn with_flags(
+    rt: &impl Print,
+    name: &[u8],
+    p: Plan,
+    octet: u32,
+    count: usize,
+) -> io::Result<()> {
+    print(rt, name)?;
+    case(rt, then(rt, p, FLAG, octet)?, count, WHOLE, true)?;
+    Ok(())
 }

@@ -1,5 +1,6 @@
 // A record described by numbers, each under a key, and the cases' names, which are made of them.
 use crate::tell::{print, print_number};
+use std::io;
 
 pub type Plan = [u32; 49];
 
@@ -186,37 +187,39 @@ pub fn changed(plan: Plan, key: usize, value: u32) -> Plan {
     p
 }
 
-fn print_character(c: u8) {
+fn print_character(rt: &impl Print, c: u8) -> io::Result<()> {
     let text = [c];
-    print(&text);
+    print(rt, &text)?;
+    Ok(())
 }
 
 // The label behind so many commas.
-fn print_label(labels: &[u8], key: usize) {
+fn print_label(rt: &impl Print, labels: &[u8], key: usize) -> io::Result<()> {
     let mut commas = key;
     let mut i: usize = 0;
     while i < labels.len() {
         let c = labels[i];
         if c == b',' {
             if commas == 0 {
-                return;
+                return Ok(());
             }
             commas -= 1;
         } else if commas == 0 {
-            print_character(c);
+            print_character(rt, c)?;
         }
         i += 1;
     }
+    Ok(())
 }
 
 // A part of a case's name: the key's label and the number, or a dash.
-pub fn part(key: usize, value: u32) {
+pub fn part(rt: &impl Print, key: usize, value: u32) -> io::Result<()> {
     let labels = LABELS;
-    print_label(&labels, key);
+    print_label(rt, &labels, key)?;
     if value == ABSENT {
-        print(b" -");
-        return;
+        return print(rt, b" -");
     }
-    print(b" ");
-    print_number(value as u64);
+    print(rt, b" ")?;
+    print_number(rt, value as u64)?;
+    Ok(())
 }

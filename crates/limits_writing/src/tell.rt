@@ -4,20 +4,21 @@
 // header that was written.
 use bits::OctetSize;
 use codec::{BlockNumber, Fault, fault_number};
-use libc::STDOUT_FILENO;
 use reader::Outcome;
 use record_octets::RECORD;
+use std::io;
+use std::io::Write;
 use writer::Written;
 
 // The octets of every output. A datagram of 65,507 fits.
 pub const WHOLE: usize = 65600;
 
-pub fn print(text: &[u8]) {
-    io::write_all(STDOUT_FILENO, text);
+pub fn print(rt: &impl Print, text: &[u8]) -> io::Result<()> {
+    io::writer(rt).write_all(text)
 }
 
-pub fn print_number(n: u64) {
-    io::print_decimal(STDOUT_FILENO, n);
+pub fn print_number(rt: &impl Print, n: u64) -> io::Result<()> {
+    print!(rt; "{n}")
 }
 
 // What octet i of the output holds before a call: never 0 or 255, and not the same as its neighbours.
@@ -45,53 +46,57 @@ fn kept(out: &[u8], n: usize) -> bool {
     true
 }
 
-fn print_kept(out: &[u8], n: usize) {
+fn print_kept(rt: &impl Print, out: &[u8], n: usize) -> io::Result<()> {
     if kept(out, n) {
-        print(b" kept");
-        return;
+        return print(rt, b" kept");
     }
-    print(b" CHANGED");
+    print(rt, b" CHANGED")?;
+    Ok(())
 }
 
 // The block that a refusal is about.
-fn print_block(block: BlockNumber) {
+fn print_block(rt: &impl Print, block: BlockNumber) -> io::Result<()> {
     if block.0 != 0 {
-        print(b" in block ");
-        print_number(block.0 as u64);
+        print(rt, b" in block ")?;
+        print_number(rt, block.0 as u64)?;
     }
+    Ok(())
 }
 
-fn print_outcome(outcome: Outcome, length: usize) {
-    print(b", read back ");
+fn print_outcome(rt: &impl Print, outcome: Outcome, length: usize) -> io::Result<()> {
+    print(rt, b", read back ")?;
     match outcome {
         Outcome::Done => {
-            print_number(length as u64);
+            print_number(rt, length as u64)?;
         }
         Outcome::Refused(fault, _, block) => {
-            print(b"refused ");
-            print_number(fault_number(fault) as u64);
-            print_block(block);
+            print(rt, b"refused ")?;
+            print_number(rt, fault_number(fault) as u64)?;
+            print_block(rt, block)?;
         }
     }
+    Ok(())
 }
 
-fn print_reading(datagram: &[u8]) {
+fn print_reading(rt: &impl Print, datagram: &[u8]) -> io::Result<()> {
     let mut h = [0u8; RECORD];
     let r = reader::read(datagram, &mut h);
     let outcome = r.outcome;
-    print_outcome(outcome, r.length.0);
+    print_outcome(rt, outcome, r.length.0)?;
+    Ok(())
 }
 
 // The octets of the output that lie behind the header serve as its user data.
-fn read_back(out: &[u8], size: usize, count: usize) {
+fn read_back(rt: &impl Print, out: &[u8], size: usize, count: usize) -> io::Result<()> {
     if out.len() < size {
-        return;
+        return Ok(());
     }
     if out.len() - size < count {
-        return;
+        return Ok(());
     }
     let n = size + count;
-    print_reading(&out[..n]);
+    print_reading(rt, &out[..n])?;
+    Ok(())
 }
 
 // A digit of the hexadecimal system, 10 to 15 as A to F.
@@ -99,57 +104,73 @@ fn digit(n: u8) -> u8 {
     if n < 10 { n + 48 } else { n % 16 + 55 }
 }
 
-fn print_octet(x: u8) {
+fn print_octet(rt: &impl Print, x: u8) -> io::Result<()> {
     let text = [b' ', digit(x / 16), digit(x % 16)];
-    print(&text);
+    print(rt, &text)?;
+    Ok(())
 }
 
-fn print_octets(out: &[u8], n: usize) {
-    print(b":");
+fn print_octets(rt: &impl Print, out: &[u8], n: usize) -> io::Result<()> {
+    print(rt, b":")?;
     let mut i: usize = 0;
     while i < n {
         if out.len() <= i {
-            return;
+            return Ok(());
         }
-        print_octet(out[i]);
+        print_octet(rt, out[i])?;
         i += 1;
     }
+    Ok(())
 }
 
-fn print_written(out: &[u8], size: usize, count: usize) {
-    print(b": written ");
-    print_number(size as u64);
-    print(b", rest");
-    print_kept(out, size);
-    read_back(out, size, count);
+fn print_written(rt: &impl Print, out: &[u8], size: usize, count: usize) -> io::Result<()> {
+    print(rt, b": written ")?;
+    print_number(rt, size as u64)?;
+    print(rt, b", rest")?;
+    print_kept(rt, out, size)?;
+    read_back(rt, out, size, count)?;
+    Ok(())
 }
 
 // The writer's refusals and the check's have place 0; another one would show.
-fn print_refused(fault: Fault, place: usize, block: BlockNumber) {
-    print(b" refused ");
-    print_number(fault_number(fault) as u64);
+fn print_refused(
+    rt: &impl Print,
+    fault: Fault,
+    place: usize,
+    block: BlockNumber,
+) -> io::Result<()> {
+    print(rt, b" refused ")?;
+    print_number(rt, fault_number(fault) as u64)?;
     if place != 0 {
-        print(b" at ");
-        print_number(place as u64);
+        print(rt, b" at ")?;
+        print_number(rt, place as u64)?;
     }
-    print_block(block);
+    print_block(rt, block)?;
+    Ok(())
 }
 
-fn print_answer(answer: Written, out: &[u8], count: usize, hex: bool) {
+fn print_answer(
+    rt: &impl Print,
+    answer: Written,
+    out: &[u8],
+    count: usize,
+    hex: bool,
+) -> io::Result<()> {
     match answer {
         Written::Done(size) => {
-            print_written(out, size.0, count);
+            print_written(rt, out, size.0, count)?;
             if hex {
-                print_octets(out, size.0);
+                print_octets(rt, out, size.0)?;
             }
         }
         Written::Refused(fault, at, block) => {
-            print(b":");
-            print_refused(fault, at.0, block);
-            print(b", output");
-            print_kept(out, 0);
+            print(rt, b":")?;
+            print_refused(rt, fault, at.0, block)?;
+            print(rt, b", output")?;
+            print_kept(rt, out, 0)?;
         }
     }
+    Ok(())
 }
 
 // The writer is lent only the first `room` octets.
@@ -161,32 +182,48 @@ fn write_first(h: &[u8; RECORD], count: usize, out: &mut [u8], room: usize) -> W
 }
 
 // A line behind its name and up to its end, with the header's octets if they are to be shown.
-fn print_writing(h: &[u8; RECORD], count: usize, room: usize, hex: bool) {
+fn print_writing(
+    rt: &impl Print,
+    h: &[u8; RECORD],
+    count: usize,
+    room: usize,
+    hex: bool,
+) -> io::Result<()> {
     let mut space = [0u8; WHOLE];
     let out: &mut [u8] = &mut space;
     fill(out);
     let answer = write_first(h, count, out, room);
-    print_answer(answer, out, count, hex);
+    print_answer(rt, answer, out, count, hex)?;
+    Ok(())
 }
 
-pub fn line(h: &[u8; RECORD], count: usize, room: usize, hex: bool) {
-    print_writing(h, count, room, hex);
-    print(b"\n");
+pub fn line(
+    rt: &impl Print,
+    h: &[u8; RECORD],
+    count: usize,
+    room: usize,
+    hex: bool,
+) -> io::Result<()> {
+    print_writing(rt, h, count, room, hex)?;
+    print(rt, b"\n")?;
+    Ok(())
 }
 
-fn print_check(answer: Written) {
+fn print_check(rt: &impl Print, answer: Written) -> io::Result<()> {
     match answer {
         Written::Done(size) => {
-            print(b" checked ");
-            print_number(size.0 as u64);
+            print(rt, b" checked ")?;
+            print_number(rt, size.0 as u64)?;
         }
-        Written::Refused(fault, at, block) => print_refused(fault, at.0, block),
+        Written::Refused(fault, at, block) => print_refused(rt, fault, at.0, block)?,
     }
+    Ok(())
 }
 
 // What the check says of a record, then what the writer does, without the end of the line.
-pub fn checked(h: &[u8; RECORD], count: usize) {
+pub fn checked(rt: &impl Print, h: &[u8; RECORD], count: usize) -> io::Result<()> {
     let answer = writer::check(h, OctetSize(count));
-    print_check(answer);
-    print_writing(h, count, WHOLE, false);
+    print_check(rt, answer)?;
+    print_writing(rt, h, count, WHOLE, false)?;
+    Ok(())
 }

@@ -5,14 +5,16 @@ use crate::cases::shown;
 use crate::plan::*;
 use crate::tell::{WHOLE, line, print};
 use record_octets::RECORD;
+use std::io;
 
 // The reader sets unused cells to 0, and the octets between the cells, so the record is had from its octets and one of
 // data.
-fn with_zeros() {
-    print(b"unused cells 0");
+fn with_zeros(rt: &impl Print) -> io::Result<()> {
+    print(rt, b"unused cells 0")?;
     let mut h = [165u8; RECORD];
     reader::read(b"\xA2\x3F\xE0\xBF\x03\x00\x00\x20\x00\x00\x00\x01", &mut h);
-    line(&h, 1, WHOLE, true);
+    line(rt, &h, 1, WHOLE, true)?;
+    Ok(())
 }
 
 // What is absent has 4,294,967,295 for its number, length or count. Besides: a character 200 behind the name; URNs
@@ -26,7 +28,8 @@ fn filled() -> Plan {
     changed(p, REFERENCE_URN, 16777216)
 }
 
-pub fn unused_cells() {
-    with_zeros();
-    shown(b"unused cells filled", filled(), 1);
+pub fn unused_cells(rt: &impl Print) -> io::Result<()> {
+    with_zeros(rt)?;
+    shown(rt, b"unused cells filled", filled(), 1)?;
+    Ok(())
 }
