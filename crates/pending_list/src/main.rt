@@ -1,10 +1,13 @@
 // Reads standard input, a datagram in hexadecimal on each line, plays each to the table of pending
 // messages, and prints the table's listing.
+#![tactic(auto)]
+
 ghost use Rattle.std.specs.Prelude.{◌≤◌, ◌<◌, length};
 
 use hexadecimal::LineRead;
-use libc::{STDIN_FILENO, STDOUT_FILENO};
 use listing::Listed;
+use std::io;
+use std::io::{Read, Write};
 use table_octets::TABLE;
 
 // How far a chunk was read: the characters held of the line, the place in the chunk, and whether the
@@ -94,49 +97,50 @@ fn take(t: &mut [u8; TABLE], line: &mut [u8; 16385], held: usize, chunk: &[u8]) 
 }
 
 // All of the input; a last line may lack its line feed. A proved loop has to end, and nothing says that
-// the input does, so the turns are counted down from a number that no run uses up.
-fn take_all(t: &mut [u8; TABLE]) {
+// the input does, so the turns are counted up to a number that no run reaches.
+fn take_all(rt: &impl Input, t: &mut [u8; TABLE]) -> io::Result<()> {
     let mut line = [0u8; 16385];
     let mut chunk = [0u8; 4096];
     let mut held: usize = 0;
-    let mut turns = u64::MAX;
-    while turns > 0 {
-        let got = libc::read(STDIN_FILENO, &mut chunk);
-        let n = io::count(got, &chunk);
+    let mut input = rt.reader();
+    for _ in 0..u64::MAX {
+        let n = input.read(&mut chunk)?;
         if n == 0 {
             break;
         }
         held = take(t, &mut line, held, &chunk[..n]);
-        turns -= 1;
     }
     end_line(t, &line, held);
+    Ok(())
 }
 
 // A row of the listing. A row has at most 4,096 octets.
-fn print_row(t: &[u8; TABLE], number: u32) {
+fn print_row(rt: &impl Print, t: &[u8; TABLE], number: u32) -> io::Result<()> {
     let mut out = [0u8; 4096];
     let r = listing::list_row(t, number, &mut out);
     let Listed::Done(size) = r else {
-        return;
+        return Ok(());
     };
     let n = size.0;
     if n <= 4096 {
-        io::write_all(STDOUT_FILENO, &out[..n]);
+        io::writer(rt).write_all(&out[..n])?;
     }
+    Ok(())
 }
 
 // Row 0 and every row that a table can have; behind the last row nothing is listed.
-fn print_rows(t: &[u8; TABLE]) {
+fn print_rows(rt: &impl Print, t: &[u8; TABLE]) -> io::Result<()> {
     let mut i: u32 = 0;
     while i < 33 {
-        print_row(t, i);
+        print_row(rt, t, i)?;
         i += 1;
     }
+    Ok(())
 }
 
-fn main() {
+fn main(rt: HostRuntime) -> io::Result<()> {
     let mut t = [0u8; TABLE];
     pending::empty(&mut t);
-    take_all(&mut t);
-    print_rows(&t);
+    take_all(&rt, &mut t)?;
+    print_rows(&rt, &t)
 }
