@@ -1,6 +1,8 @@
 // Calls on the table of pending messages, at the limits of document 01. Each is a line of a script, which is printed
 // with what came of it: `done` or `refused` with the number and, where the refusal is about one, the block; the
 // listing, or a row's octets. The file stdout has what each has to be, worked from the papers.
+#![tactic(auto)]
+
 mod block;
 mod days;
 mod effects;
@@ -14,26 +16,29 @@ mod tell;
 mod words;
 mod wrong;
 
-fn main() {
-    refusals::worked();
-    refusals::postings();
-    refusals::records();
-    refusals::blocks_posted();
-    refusals::blocks_received();
-    refusals::versions();
-    refusals::receipts();
-    refusals::releases();
-    days::calls();
-    days::order();
-    days::tried();
-    days::stored();
-    effects::codes();
-    effects::code_two();
-    effects::recipients();
-    effects::keys();
-    effects::names();
-    effects::full();
-    lists::rooms();
-    lists::wrong_count();
-    lists::wrong_rows();
+use std::io;
+
+fn main(rt: HostRuntime) -> io::Result<()> {
+    refusals::worked(&rt)?;
+    refusals::postings(&rt)?;
+    refusals::records(&rt)?;
+    refusals::blocks_posted(&rt)?;
+    refusals::blocks_received(&rt)?;
+    refusals::versions(&rt)?;
+    refusals::receipts(&rt)?;
+    refusals::releases(&rt)?;
+    days::calls(&rt)?;
+    days::order(&rt)?;
+    days::tried(&rt)?;
+    days::stored(&rt)?;
+    effects::codes(&rt)?;
+    effects::code_two(&rt)?;
+    effects::recipients(&rt)?;
+    effects::keys(&rt)?;
+    effects::names(&rt)?;
+    effects::full(&rt)?;
+    lists::rooms(&rt)?;
+    lists::wrong_count(&rt)?;
+    lists::wrong_rows(&rt)?;
+    Ok(())
 }

@@ -1,6 +1,7 @@
 // Rows of the listing, written into octets that hold a pattern.
 use crate::tell::{listing_number, print, print_number, print_refused};
 use listing::Listed;
+use std::io;
 use table_octets::TABLE;
 
 // The octets of every output. A row may be longer, but none here is.
@@ -31,39 +32,41 @@ fn kept(out: &[u8], n: usize) -> bool {
     true
 }
 
-fn print_kept(out: &[u8], n: usize) {
+fn print_kept(rt: &impl Print, out: &[u8], n: usize) -> io::Result<()> {
     if kept(out, n) {
-        print(b" kept");
-        return;
+        return print(rt, b" kept");
     }
-    print(b" CHANGED");
+    print(rt, b" CHANGED")?;
+    Ok(())
 }
 
-fn print_first(out: &[u8], n: usize) {
+fn print_first(rt: &impl Print, out: &[u8], n: usize) -> io::Result<()> {
     if out.len() < n {
-        return;
+        return Ok(());
     }
-    print(&out[..n]);
+    print(rt, &out[..n])?;
+    Ok(())
 }
 
 // The text of a row; a refusal would show.
-fn print_row(t: &[u8; TABLE], number: u32) {
+fn print_row(rt: &impl Print, t: &[u8; TABLE], number: u32) -> io::Result<()> {
     let mut space = [0u8; WHOLE];
     let out: &mut [u8] = &mut space;
     fill(out);
     match listing::list_row(t, number, out) {
-        Listed::Done(size) => print_first(out, size.0),
-        Listed::Refused(fault, at, block) => print_refused(listing_number(fault), at.0, block),
+        Listed::Done(size) => print_first(rt, out, size.0),
+        Listed::Refused(fault, at, block) => print_refused(rt, listing_number(fault), at.0, block),
     }
 }
 
 // The whole listing, with a row past the last that a full table has.
-pub fn print_rows(t: &[u8; TABLE]) {
+pub fn print_rows(rt: &impl Print, t: &[u8; TABLE]) -> io::Result<()> {
     let mut number: u32 = 0;
     while number < 34 {
-        print_row(t, number);
+        print_row(rt, t, number)?;
         number += 1;
     }
+    Ok(())
 }
 
 // The listing is lent only the first `room` octets.
@@ -75,21 +78,22 @@ fn list_first(t: &[u8; TABLE], number: u32, out: &mut [u8], room: usize) -> List
 }
 
 // One row in so many octets: how many were written, and whether the others are as they were.
-pub fn print_line(t: &[u8; TABLE], number: u32, room: usize) {
+pub fn print_line(rt: &impl Print, t: &[u8; TABLE], number: u32, room: usize) -> io::Result<()> {
     let mut space = [0u8; WHOLE];
     let out: &mut [u8] = &mut space;
     fill(out);
     match list_first(t, number, out, room) {
         Listed::Done(size) => {
-            print(b" octets ");
-            print_number(size.0 as u64);
-            print(b", rest");
-            print_kept(out, size.0);
+            print(rt, b" octets ")?;
+            print_number(rt, size.0 as u64)?;
+            print(rt, b", rest")?;
+            print_kept(rt, out, size.0)?;
         }
         Listed::Refused(fault, at, block) => {
-            print_refused(listing_number(fault), at.0, block);
-            print(b", output");
-            print_kept(out, 0);
+            print_refused(rt, listing_number(fault), at.0, block)?;
+            print(rt, b", output")?;
+            print_kept(rt, out, 0)?;
         }
     }
+    Ok(())
 }
