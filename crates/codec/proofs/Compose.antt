@@ -6,114 +6,95 @@ use mathlib.Core.Bool.{Bool, true, false}
 use mathlib.Core.List.{List}
 use lib.ListN.{length-append}
 use native.Mathlib.Omega.{arith}
-use denote.Enum.Declared.{tag_of}
 use Rattle.bits.specs.Bits.{bits_of, splice}
 use Rattle.bits.specs.declared.BitPlace.{BitPlace}
 use Rattle.bits.proofs.Splices.{splice-splice, splice-nil}
 use Rattle.codec.specs.Answer.{got, refused, next, pick}
 use Rattle.codec.specs.Codec.{Codec, first, same, must, number, nothing, ◌then_by◌, viewed, present, unless, tested, flag, ◌closed_by◌}
-use Rattle.codec.specs.Refusals.{fault_no, answer, number_answer, flag_answer, number_step, flag_step}
+use Rattle.codec.specs.Refusals.{fault_no, Step, Reading, answer, answer_of}
 use Rattle.codec.specs.Writes.{Writes}
-use Rattle.codec.specs.declared.Fault.{Fault}
-use Rattle.codec.specs.declared.Number.{Number}
-use Rattle.codec.specs.declared.Flag.{Flag}
-use Rattle.codec.specs.declared.Step.{Step}
-use Rattle.codec.specs.contracts.Number as numbers
-use Rattle.codec.specs.contracts.Flag as flags
-use Rattle.codec.specs.contracts.Step as step
+use Rattle.codec.specs.declared.FieldFault.{FieldFault}
+use Rattle.std.specs.Prelude.{Result, Ok, Err, IsErrAnd}
+use Rattle.std.proofs.lemmas.Result.{err_from_is_err_and}
 
--- the reading of c at p stops, and st says where and why
-pub record Stops {A : Type 0} (c : Codec A) (bs : List Bool) (p : ℕ) (st : Step) : Type 0 where
-  pub fault : Fault
-  pub place : BitPlace
-  pub is : st ≡ Step.Refused fault place
-  pub read : refused (fault_no fault) place.0 ≡ c.read bs p
+-- the reading of c at p stops, and e says where and why
+pub record Stops {A : Type 0} (c : Codec A) (bs : List Bool) (p : ℕ) (e : FieldFault) : Type 0 where
+  pub read : refused (fault_no e.fault) e.place.0 ≡ c.read bs p
 
 -- c's reading gives x, and the next place is q. (An equation by its name, so that `search` does not take it for any other equation.)
 pub record Gets {A : Type 0} (c : Codec A) (bs : List Bool) (p : ℕ) (x : A) (q : ℕ) : Type 0 where
   pub read : got x q ≡ c.read bs p
 
 -- from a function's own contract, at its returns
-pub ended : {A : Type 0} (c : Codec A) (bs : List Bool) (p : ℕ) (x : A) (q : BitPlace) → Gets c bs p x q.0 → answer (Step.Next q) x ≡ c.read bs p
+pub ended : {A : Type 0} (c : Codec A) (bs : List Bool) (p : ℕ) (x : A) (q : BitPlace) → Gets c bs p x q.0 → answer (Ok q) x ≡ c.read bs p
 unfolding answer
 ended c bs p x q g = g.read
 
-pub stopped : {A : Type 0} (c : Codec A) (bs : List Bool) (p : ℕ) (x : A) (st : Step) → Stops c bs p st → answer st x ≡ c.read bs p
+pub ended_with : {A : Type 0} (c : Codec A) (bs : List Bool) (p : ℕ) (x : A) (q : BitPlace) → Gets c bs p x q.0 → answer_of (Ok (x, q)) ≡ c.read bs p
+unfolding answer_of
+ended_with c bs p x q g = g.read
+
+pub stopped : {A : Type 0} (c : Codec A) (bs : List Bool) (p : ℕ) (x : A) (e : FieldFault) → Stops c bs p e → answer (Err e) x ≡ c.read bs p
 unfolding answer
-stopped c bs p x st s = rw s.is s.read
+stopped c bs p x e s = s.read
+
+pub stopped_with : {A : Type 0} (c : Codec A) (bs : List Bool) (p : ℕ) (e : FieldFault) → Stops c bs p e → answer_of (Err e) ≡ c.read bs p
+unfolding answer_of
+stopped_with c bs p e s = s.read
+
+-- where a `?` hands on the refusal of another function
+pub handed : {A E : Type 0} (r : Result A E) (e : E) → IsErrAnd r (λ f. f ≡ e) → r ≡ Err e
+handed r e h = let p = err_from_is_err_and r h in p.1 ∙ ap Err p.2
 
 -- a part that the bits leave out: its presence, which was read, is false
-pub left_out : {A : Type 0} (c : Codec A) (bs : List Bool) (p : ℕ) (f : Bool → A) (q : BitPlace) (b : Bool) → b ≡ false → answer (Step.Next q) (f b) ≡ c.read bs p → answer (Step.Next q) (f false) ≡ c.read bs p
-left_out c bs p f q b e r = subst (λ (z : Bool). answer (Step.Next q) (f z) ≡ c.read bs p) e r
-
--- a refusal that another function hands on
-pub stopped-as : {A : Type 0} (c : Codec A) (bs : List Bool) (p : ℕ) (x : A) (st u : Step) → st ≡ u → Stops c bs p u → answer st x ≡ c.read bs p
-stopped-as c bs p x st u e s = ap (λ (t : Step). answer t x) e ∙ stopped c bs p x u s
+pub left_out : {A : Type 0} (c : Codec A) (bs : List Bool) (p : ℕ) (f : Bool → A) (q : BitPlace) (b : Bool) → b ≡ false → answer (Ok q) (f b) ≡ c.read bs p → answer (Ok q) (f false) ≡ c.read bs p
+left_out c bs p f q b e r = subst (λ (z : Bool). answer (Ok q) (f z) ≡ c.read bs p) e r
 
 module _ (bs : List Bool) (p : ℕ) where
-  -- a field that was got, where a pattern has taken it apart
-  pub number-got : (c : Codec ℕ) (n : Number) (x : ℕ) (q : BitPlace) → number_answer n ≡ c.read bs p → n ≡ Number.Got x q → Gets c bs p x q.0
-  unfolding number_answer
-  number-got c n x q e g = record { read = rw g at e }
+  -- a field that was got, where a `?` has taken it apart
+  pub reading-got : {A : Type 0} (c : Codec A) (x : A) (q : BitPlace) → answer_of (Ok (x, q)) ≡ c.read bs p → Gets c bs p x q.0
+  unfolding answer_of
+  reading-got c x q e = record { read = e }
 
-  pub flag-got : (c : Codec Bool) (n : Flag) (x : Bool) (q : BitPlace) → flag_answer n ≡ c.read bs p → n ≡ Flag.Got x q → Gets c bs p x q.0
-  unfolding flag_answer
-  flag-got c n x q e g = record { read = rw g at e }
-
-  pub group-got : {A : Type 0} (c : Codec A) (st : Step) (x : A) (q : BitPlace) → answer st x ≡ c.read bs p → st ≡ Step.Next q → Gets c bs p x q.0
+  pub group-got : {A : Type 0} (c : Codec A) (x : A) (q : BitPlace) → answer (Ok q) x ≡ c.read bs p → Gets c bs p x q.0
   unfolding answer
-  group-got c st x q e g = record { read = rw g at e }
+  group-got c x q e = record { read = e }
 
-  -- a field that was refused, in the `else` of a `let .. else`
-  pub number-stop : (c : Codec ℕ) (n : Number) (st : Step) → number_answer n ≡ c.read bs p → tag_of numbers.the_type n ≡ 1 → st ≡ number_step n → Stops c bs p st
-  unfolding number_answer number_step
-  number-stop c (Number.Got x q) st e t g = absurd (omega arith)
-  number-stop c (Number.Refused f q) st e t g = record { fault = f; place = q; is = g; read = e }
+  -- a field that was refused, where a `?` hands it on
+  pub reading-stop : {A : Type 0} (c : Codec A) (f : FieldFault) → answer_of (Err f) ≡ c.read bs p → Stops c bs p f
+  unfolding answer_of
+  reading-stop c f e = record { read = e }
 
-  pub flag-stop : (c : Codec Bool) (n : Flag) (st : Step) → flag_answer n ≡ c.read bs p → tag_of flags.the_type n ≡ 1 → st ≡ flag_step n → Stops c bs p st
-  unfolding flag_answer flag_step
-  flag-stop c (Flag.Got x q) st e t g = absurd (omega arith)
-  flag-stop c (Flag.Refused f q) st e t g = record { fault = f; place = q; is = g; read = e }
-
-  pub group-stop : {A : Type 0} (c : Codec A) (st : Step) (x : A) → answer st x ≡ c.read bs p → tag_of step.the_type st ≡ 1 → Stops c bs p st
+  pub group-stop : {A : Type 0} (c : Codec A) (x : A) (f : FieldFault) → answer (Err f) x ≡ c.read bs p → Stops c bs p f
   unfolding answer
-  group-stop c (Step.Next q) x e t = absurd (omega arith)
-  group-stop c (Step.Refused f q) x e t = record { fault = f; place = q; is = refl; read = e }
+  group-stop c x f e = record { read = e }
 
   module _ {A B : Type 0} (c : Codec A) (d : A → Codec B) where
     then-got : (x : A) (y : B) (q r : ℕ) → Gets c bs p x q → Gets (d x) bs q y r → Gets (c then_by d) bs p (x, y) r
     unfolding next ◌then_by◌
     then-got x y q r g h = record { read = rw (← g.read, ← h.read) }
 
-    then-stop : (x : A) (q : ℕ) (st : Step) → Gets c bs p x q → Stops (d x) bs q st → Stops (c then_by d) bs p st
+    then-stop : (x : A) (q : ℕ) (f : FieldFault) → Gets c bs p x q → Stops (d x) bs q f → Stops (c then_by d) bs p f
     unfolding next ◌then_by◌
-    then-stop x q st g s = record { fault = s.fault; place = s.place; is = s.is; read = rw (← g.read, ← s.read) }
+    then-stop x q f g s = record { read = rw (← g.read, ← s.read) }
 
     -- the first of the fields stops
-    pub here-stop : (st : Step) → Stops c bs p st → Stops (c then_by d) bs p st
+    pub here-stop : (f : FieldFault) → Stops c bs p f → Stops (c then_by d) bs p f
     unfolding next ◌then_by◌
-    here-stop st s = record { fault = s.fault; place = s.place; is = s.is; read = rw (← s.read) }
+    here-stop f s = record { read = rw (← s.read) }
 
     -- past a field, with others to come
-    pub group-then : (st : Step) (x : A) (y : B) (q : BitPlace) (r : ℕ) → answer st x ≡ c.read bs p → st ≡ Step.Next q → Gets (d x) bs q.0 y r → Gets (c then_by d) bs p (x, y) r
-    group-then st x y q r e g h = then-got x y q.0 r (group-got c st x q e g) h
+    pub group-then : (x : A) (y : B) (q : BitPlace) (r : ℕ) → answer (Ok q) x ≡ c.read bs p → Gets (d x) bs q.0 y r → Gets (c then_by d) bs p (x, y) r
+    group-then x y q r e h = then-got x y q.0 r (group-got c x q e) h
 
-    pub group-then-stop : (st u : Step) (x : A) (q : BitPlace) → answer u x ≡ c.read bs p → u ≡ Step.Next q → Stops (d x) bs q.0 st → Stops (c then_by d) bs p st
-    group-then-stop st u x q e g h = then-stop x q.0 st (group-got c u x q e g) h
+    pub group-then-stop : (f : FieldFault) (x : A) (q : BitPlace) → answer (Ok q) x ≡ c.read bs p → Stops (d x) bs q.0 f → Stops (c then_by d) bs p f
+    group-then-stop f x q e h = then-stop x q.0 f (group-got c x q e) h
 
-  module _ {B : Type 0} (c : Codec ℕ) (d : ℕ → Codec B) where
-    pub number-then : (n : Number) (x : ℕ) (y : B) (q : BitPlace) (r : ℕ) → number_answer n ≡ c.read bs p → n ≡ Number.Got x q → Gets (d x) bs q.0 y r → Gets (c then_by d) bs p (x, y) r
-    number-then n x y q r e g h = then-got c d x y q.0 r (number-got c n x q e g) h
+    pub reading-then : (x : A) (y : B) (q : BitPlace) (r : ℕ) → answer_of (Ok (x, q)) ≡ c.read bs p → Gets (d x) bs q.0 y r → Gets (c then_by d) bs p (x, y) r
+    reading-then x y q r e h = then-got x y q.0 r (reading-got c x q e) h
 
-    pub number-then-stop : (n : Number) (x : ℕ) (q : BitPlace) (st : Step) → number_answer n ≡ c.read bs p → n ≡ Number.Got x q → Stops (d x) bs q.0 st → Stops (c then_by d) bs p st
-    number-then-stop n x q st e g h = then-stop c d x q.0 st (number-got c n x q e g) h
-
-  module _ {B : Type 0} (c : Codec Bool) (d : Bool → Codec B) where
-    pub flag-then : (n : Flag) (x : Bool) (y : B) (q : BitPlace) (r : ℕ) → flag_answer n ≡ c.read bs p → n ≡ Flag.Got x q → Gets (d x) bs q.0 y r → Gets (c then_by d) bs p (x, y) r
-    flag-then n x y q r e g h = then-got c d x y q.0 r (flag-got c n x q e g) h
-
-    pub flag-then-stop : (n : Flag) (x : Bool) (q : BitPlace) (st : Step) → flag_answer n ≡ c.read bs p → n ≡ Flag.Got x q → Stops (d x) bs q.0 st → Stops (c then_by d) bs p st
-    flag-then-stop n x q st e g h = then-stop c d x q.0 st (flag-got c n x q e g) h
+    pub reading-then-stop : (f : FieldFault) (x : A) (q : BitPlace) → answer_of (Ok (x, q)) ≡ c.read bs p → Stops (d x) bs q.0 f → Stops (c then_by d) bs p f
+    reading-then-stop f x q e h = then-stop x q.0 f (reading-got c x q e) h
 
   -- in another shape
   module _ {A B : Type 0} (to : A → B) (from : B → A) (clean : B → B) (fine : B → Bool) (fault : ℕ) (c : Codec A) where
@@ -121,9 +102,23 @@ module _ (bs : List Bool) (p : ℕ) where
     unfolding next viewed
     shape-got y q g e = record { read = rw (← g.read, e) }
 
-    pub shape-stop : (st : Step) → Stops c bs p st → Stops (viewed to from clean fine fault c) bs p st
+    pub shape-stop : (f : FieldFault) → Stops c bs p f → Stops (viewed to from clean fine fault c) bs p f
     unfolding next viewed
-    shape-stop st s = record { fault = s.fault; place = s.place; is = s.is; read = rw (← s.read) }
+    shape-stop f s = record { read = rw (← s.read) }
+
+  -- with a test behind it
+  module _ {A : Type 0} (test : A → Bool) (fault : ℕ) (c : Codec A) where
+    pub tested-stop : (f : FieldFault) → Stops c bs p f → Stops (tested test fault c) bs p f
+    unfolding next tested
+    tested-stop f s = record { read = rw (← s.read) }
+
+    pub tested-refused : (x : A) (q : ℕ) → Gets c bs p x q → test x ≡ false → refused fault p ≡ (tested test fault c).read bs p
+    unfolding next tested
+    tested-refused x q g t = rw (← g.read, t)
+
+    pub tested-got : (x : A) (q : ℕ) → Gets c bs p x q → test x ≡ true → Gets (tested test fault c) bs p x q
+    unfolding next tested
+    tested-got x q g t = record { read = rw (← g.read, t) }
 
   -- where a presence bit says that it is there, and where not
   module _ {A : Type 0} (x : A) (c : Codec A) (b : Bool) where
@@ -135,13 +130,13 @@ module _ (bs : List Bool) (p : ℕ) where
     unfolding present nothing
     absent-got e = rw e (record { read = refl })
 
-    pub present-stop : (st : Step) → b ≡ true → Stops c bs p st → Stops (present x c b) bs p st
+    pub present-stop : (f : FieldFault) → b ≡ true → Stops c bs p f → Stops (present x c b) bs p f
     unfolding present
-    present-stop st e s = rw e s
+    present-stop f e s = rw e s
 
-pub ruleset getting = (ended, number-got, flag-got, group-got, group-then, number-then, flag-then, shape-got, present-got, absent-got)
+pub ruleset getting = (ended, ended_with, reading-got, group-got, group-then, reading-then, shape-got, present-got, absent-got)
 
-pub ruleset stopping = (stopped, number-stop, flag-stop, group-stop, here-stop, group-then-stop, number-then-stop, flag-then-stop, shape-stop, present-stop)
+pub ruleset stopping = (stopped, stopped_with, reading-stop, group-stop, here-stop, group-then-stop, reading-then-stop, shape-stop, tested-stop, present-stop)
 
 pub ruleset reading = (getting, stopping)
 
@@ -213,7 +208,7 @@ number-writes w lo hi f least most g v s t p q e = record { bits = e.bits; ends 
 
 pub ruleset writing = (then-writes, shape-writes, present-writes, absent-writes, tested-writes, tested-then-writes)
 
--- checks
+-- checks: r is the first of two, where a `?` hands on the refusal of the one before
 module _ {A B : Type 0} (c : Codec A) (d : A → Codec B) where
   pub then-checks : (xy : A × B) (r f g : ℕ) → r ≡ first f g → f ≡ c.check xy.0 → g ≡ (d xy.0).check xy.1 → r ≡ (c then_by d).check xy
   unfolding ◌then_by◌
@@ -260,7 +255,7 @@ module _ {A : Type 0} (lacking : Bool) (x : A) (there : A → Bool) (fault : ℕ
     had-writes y s t p q w = record { bits = rw e w.bits; ends = rw e w.ends; next = rw e w.next }
 
   module _ (e : lacking ≡ true) where
-    pub lacked-read : (bs : List Bool) (q : BitPlace) → answer (Step.Next q) x ≡ (unless lacking x there fault c).read bs q.0
+    pub lacked-read : (bs : List Bool) (q : BitPlace) → answer (Ok q) x ≡ (unless lacking x there fault c).read bs q.0
     unfolding unless answer
     lacked-read bs q = rw e
 

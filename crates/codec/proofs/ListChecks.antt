@@ -9,30 +9,18 @@ use lib.Dec.{eqb}
 use borrow.Author.Tests.{eq-eqb, le-leb, lt-leb}
 use native.Mathlib.Numerals.{add-one}
 use native.Mathlib.Omega.{arith}
-use denote.Enum.Declared.{tag_of}
 use Rattle.codec.specs.Answer.{pick}
 use Rattle.codec.specs.Codec.{Codec, first, flag, nothing, present, tested, viewed, ◌then_by◌}
 use Rattle.codec.specs.Lists.{recurs, listed, cells}
 use Rattle.codec.specs.Refusals.{check_no, fault_no}
-use Rattle.codec.specs.declared.Check.{Check}
-use Rattle.codec.specs.contracts.Check as check
-use Rattle.codec.proofs.Told.{fault-positive, first-refusal}
+use Rattle.codec.specs.declared.Fault.{Fault}
+use Rattle.codec.proofs.Told.{fine-first, bad-first}
+use Rattle.std.specs.Prelude.{Result, Ok, Err}
 
 -- the first fault of entries
 abbrev pub faults : {A : Type 0} → Codec A → List A → ℕ
 faults c [] = 0
 faults c (y ∷ ys) = first (c.check y) (faults c ys)
-
--- past a check that says nothing, and at one that refuses
-fine-on : (a : Check) (n : ℕ) → tag_of check.the_type a ≡ 0 → first (check_no a) n ≡ n
-unfolding first check_no
-fine-on Check.Fine n t = refl
-fine-on (Check.Bad f) n t = absurd (omega arith)
-
-bad-on : (a : Check) (n : ℕ) → tag_of check.the_type a ≡ 1 → check_no a ≡ first (check_no a) n
-unfolding check_no
-bad-on Check.Fine n t = absurd (omega arith)
-bad-on (Check.Bad f) n t = first-refusal (fault_no f) n (fault-positive f)
 
 module _ {A : Type 0} (z : A) (c : Codec A) where
   pub entries-checked : (left : ℕ) (xs : List A) → 0 < length xs → length xs ≤ suc left → (listed z c left).check xs ≡ faults c xs
@@ -78,14 +66,14 @@ module _ {A : Type 0} (z : A) (c : Codec A) where
       pub checking-all : k ≤ i → 0 ≡ (cells z room (suc left) 5 (listed z c left)).check (l, k)
       checking-all h = sym (p.same ∙ ap (faults c) (drop_of_length-le (take k l) {i = i} (rw length-take (omega arith))))
 
-      module _ (d : A) (h : i < k) (r : k ≤ room) (a : Check) (e : check_no a ≡ c.check (get_or l i d)) where
+      module _ {B : Type 0} (d : A) (h : i < k) (r : k ≤ room) (a : Result B Fault) (e : check_no a ≡ c.check (get_or l i d)) where
         here : (cells z room (suc left) 5 (listed z c left)).check (l, k) ≡ first (check_no a) (faults c (drop (i + 1) (take k l)))
         here =
             let m : i < length (take k l) = rw length-take (omega arith) in
             p.same ∙ ap (faults c) (drop-cons (take k l) i d m) ∙ rw (add-one, get_or-take k l i d h, e)
 
-        pub checking-more : tag_of check.the_type a ≡ 0 → Checking room left l k (i + 1)
-        checking-more t = record { within = omega arith; same = here ∙ fine-on a _ t }
+        pub checking-more : (x : B) → a ≡ Ok x → Checking room left l k (i + 1)
+        checking-more x t = record { within = omega arith; same = here ∙ sym (fine-first a x _ t) }
 
-        pub checking-bad : tag_of check.the_type a ≡ 1 → check_no a ≡ (cells z room (suc left) 5 (listed z c left)).check (l, k)
-        checking-bad t = sym (here ∙ sym (bad-on a _ t))
+        pub checking-bad : (C : Type 0) (f : Fault) → a ≡ Err f → check_no {A = C} (Err f) ≡ (cells z room (suc left) 5 (listed z c left)).check (l, k)
+        checking-bad C f t = bad-first C a f _ t ∙ sym here

@@ -12,7 +12,7 @@ use Rattle.codec.specs.Answer.{next}
 use Rattle.codec.specs.Codec.{Codec, first, flag, tested, nothing, present, viewed, ◌then_by◌, ◌&◌}
 use Rattle.codec.specs.Lists.{recurs, listed, cells}
 use Rattle.codec.specs.Writes.{Writes}
-use Rattle.codec.specs.declared.Step.{Step}
+use Rattle.codec.specs.declared.FieldFault.{FieldFault}
 use Rattle.codec.proofs.Lawful.{Lawful}
 use Rattle.codec.proofs.Sequences.{and-lawful}
 use Rattle.codec.proofs.Views.{must-lawful}
@@ -24,19 +24,19 @@ module _ {A : Type 0} (z : A) (c : Codec A) (bs : List Bool) where
   unfolding listed next viewed ◌then_by◌ present
   entry_more n p q r y ys g h = record { read = rw (← g.read, ← h.read) }
 
-  entry-more-stop : (n p q : ℕ) (y : A) (st : Step) → Gets (recurs (suc n) & c) bs p (true, y) q → Stops (listed z c n) bs q st → Stops (listed z c (suc n)) bs p st
+  entry-more-stop : (n p q : ℕ) (y : A) (f : FieldFault) → Gets (recurs (suc n) & c) bs p (true, y) q → Stops (listed z c n) bs q f → Stops (listed z c (suc n)) bs p f
   unfolding listed next viewed ◌then_by◌ present
-  entry-more-stop n p q y st g s = record { fault = s.fault; place = s.place; is = s.is; read = rw (← g.read, ← s.read) }
+  entry-more-stop n p q y f g s = record { read = rw (← g.read, ← s.read) }
 
   entry-last : (n p q : ℕ) (y : A) → Gets (recurs n & c) bs p (false, y) q → Gets (listed z c n) bs p (y ∷ []) q
   unfolding listed next viewed ◌then_by◌ present nothing
   entry-last zero p q y g = record { read = rw (← g.read) }
   entry-last (suc n) p q y g = record { read = rw (← g.read) }
 
-  entry-stop : (n p : ℕ) (st : Step) → Stops (recurs n & c) bs p st → Stops (listed z c n) bs p st
+  entry-stop : (n p : ℕ) (f : FieldFault) → Stops (recurs n & c) bs p f → Stops (listed z c n) bs p f
   unfolding listed next viewed ◌then_by◌
-  entry-stop zero p st s = record { fault = s.fault; place = s.place; is = s.is; read = rw (← s.read) }
-  entry-stop (suc n) p st s = record { fault = s.fault; place = s.place; is = s.is; read = rw (← s.read) }
+  entry-stop zero p f s = record { read = rw (← s.read) }
+  entry-stop (suc n) p f s = record { read = rw (← s.read) }
 
   -- at the last place the recurrence bit is 0
   last_bit : Lawful c → (p q : ℕ) (y : A) → Gets (recurs 0 & c) bs p (true, y) q → ⊥
@@ -48,12 +48,12 @@ module _ {A : Type 0} (z : A) (c : Codec A) (bs : List Bool) where
     pub small : n ≤ left
     pub filled : Filled z room xs n
     pub rest : (ys : List A) (r : ℕ) → Gets (listed z c (left - n)) bs q ys r → Gets (listed z c left) bs p (take n xs ++ ys) r
-    pub stop : (st : Step) → Stops (listed z c (left - n)) bs q st → Stops (listed z c left) bs p st
+    pub stop : (f : FieldFault) → Stops (listed z c (left - n)) bs q f → Stops (listed z c left) bs p f
 
   pub listing_none : (room left p : ℕ) → Listing room left p (replicate room z) 0 p
   listing_none room left p =
       let k : left - 0 ≡ left = omega arith in
-      record { small = omega arith; filled = filled_none z room; rest = λ ys r g. rw k at g; stop = λ st s. rw k at s }
+      record { small = omega arith; filled = filled_none z room; rest = λ ys r g. rw k at g; stop = λ f s. rw k at s }
 
   module _ (lc : Lawful c) (room left p : ℕ) (xs : List A) (n q : ℕ) (l : Listing room left p xs n q) (h : left < room) (y : A) where
     grown : take (n + 1) (set xs n y) ≡ take n xs ++ (y ∷ [])
@@ -72,7 +72,7 @@ module _ {A : Type 0} (z : A) (c : Codec A) (bs : List Bool) where
           small = omega arith;
           filled = filled_more z room xs n y (omega (arith, l.small)) l.filled;
           rest = λ ys r g. rw (grown, append_assoc) (l.rest (y ∷ ys) r (rw k (entry_more (left - (n + 1)) q t r y ys f g)));
-          stop = λ st s. l.stop st (rw k (entry-more-stop (left - (n + 1)) q t y st f s));
+          stop = λ w s. l.stop w (rw k (entry-more-stop (left - (n + 1)) q t y w f s));
         }
 
     pub listing-end : (most fault t : ℕ) → Gets (recurs (left - n) & c) bs q (false, y) t → Gets (cells z room most fault (listed z c left)) bs p (set xs n y, n + 1) t
@@ -84,11 +84,11 @@ module _ {A : Type 0} (z : A) (c : Codec A) (bs : List Bool) where
         let g : Gets (listed z c left) bs p (take (n + 1) (set xs n y)) t = rw grown (l.rest (y ∷ []) t (entry-last (left - n) q t y e)) in
         record { read = rw (← g.read, a, m) }
 
-  pub listing-stop : (room most fault left p : ℕ) (xs : List A) (n q : ℕ) (l : Listing room left p xs n q) (st : Step) → Stops (recurs (left - n) & c) bs q st → Stops (cells z room most fault (listed z c left)) bs p st
+  pub listing-stop : (room most fault left p : ℕ) (xs : List A) (n q : ℕ) (l : Listing room left p xs n q) (f : FieldFault) → Stops (recurs (left - n) & c) bs q f → Stops (cells z room most fault (listed z c left)) bs p f
   unfolding cells viewed next
-  listing-stop room most fault left p xs n q l st s =
-      let u = l.stop st (entry-stop (left - n) q st s) in
-      record { fault = u.fault; place = u.place; is = u.is; read = rw (← u.read) }
+  listing-stop room most fault left p xs n q l f s =
+      let u = l.stop f (entry-stop (left - n) q f s) in
+      record { read = rw (← u.read) }
 
 -- writing
 module _ {A : Type 0} (z : A) (c : Codec A) where

@@ -1,34 +1,13 @@
--- What a `match` or a `let .. else` tells of an answer, and of a check that another follows. Assumes nothing.
+-- That no refusal has the number 0, and what a `?` tells of a check that another follows. Assumes nothing.
 use Prim.Native.Nat.{ℕ, zero, suc, ◌<◌}
 use mathlib.Core.Path.{◌≡◌, refl}
 use native.Mathlib.Omega.{arith}
 use lib.Dec.{lit<}
-use denote.Enum.Declared.{tag_of}
-use Rattle.bits.specs.declared.BitPlace.{BitPlace}
 use Rattle.codec.specs.Codec.{first}
 use Rattle.codec.specs.Refusals.{check_no, fault_no}
 use Rattle.codec.specs.declared.Fault.{Fault}
 use Rattle.codec.specs.declared.Fault.TheVariants.{Short, Version, Code, BadText, Count, Forms, Security, Fill, NoRoom, TooLong, RuleA, RuleB, RuleC, RuleD, RuleE, RuleF, RuleG, RuleH, RuleI, HeaderSize, SizeSum, NoBody, NeedlessBody}
-use Rattle.codec.specs.declared.Flag.{Flag}
-use Rattle.codec.specs.declared.Number.{Number}
-use Rattle.codec.specs.declared.Step.{Step}
-use Rattle.codec.specs.declared.Check.{Check}
-use Rattle.codec.specs.contracts.Flag as flag
-use Rattle.codec.specs.contracts.Number as number
-use Rattle.codec.specs.contracts.Step as step
-use Rattle.codec.specs.contracts.Check as check
-
-pub flag-told : (n : Flag) → tag_of flag.the_type n ≡ 1 → (f : Fault) × (p : BitPlace) × (n ≡ Flag.Refused f p)
-flag-told (Flag.Got x p) e = absurd (omega arith)
-flag-told (Flag.Refused f p) e = (f, p, refl)
-
-pub number-told : (n : Number) → tag_of number.the_type n ≡ 1 → (f : Fault) × (p : BitPlace) × (n ≡ Number.Refused f p)
-number-told (Number.Got x p) e = absurd (omega arith)
-number-told (Number.Refused f p) e = (f, p, refl)
-
-pub step-told : (n : Step) → tag_of step.the_type n ≡ 1 → (f : Fault) × (p : BitPlace) × (n ≡ Step.Refused f p)
-step-told (Step.Next p) e = absurd (omega arith)
-step-told (Step.Refused f p) e = (f, p, refl)
+use Rattle.std.specs.Prelude.{Result, Ok, Err}
 
 -- no refusal has the number 0
 pub fault-positive : (f : Fault) → 0 < fault_no f
@@ -61,11 +40,13 @@ unfolding first
 first-refusal zero g h = absurd (omega arith)
 first-refusal (suc f) g h = refl
 
-pub fine-first : (a b : Check) → tag_of check.the_type a ≡ 0 → check_no b ≡ first (check_no a) (check_no b)
-unfolding first check_no
-fine-first Check.Fine b e = refl
-fine-first (Check.Bad f) b e = absurd (omega arith)
+module _ {A : Type 0} where
+  -- past a check that refuses nothing
+  pub fine-first : (a : Result A Fault) (x : A) (n : ℕ) → a ≡ Ok x → n ≡ first (check_no a) n
+  unfolding first check_no
+  fine-first a x n e = rw e
 
-pub bad-first : (f : Fault) (a : Check) (n : ℕ) → a ≡ Check.Bad f → check_no (Check.Bad f) ≡ first (check_no a) n
-unfolding check_no
-bad-first f a n e = rw e (first-refusal (fault_no f) n (fault-positive f))
+  -- at one that refuses
+  pub bad-first : (B : Type 0) (a : Result A Fault) (f : Fault) (n : ℕ) → a ≡ Err f → check_no {A = B} (Err f) ≡ first (check_no a) n
+  unfolding check_no
+  bad-first B a f n e = rw e (first-refusal (fault_no f) n (fault-positive f))

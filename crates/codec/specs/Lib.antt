@@ -2,6 +2,7 @@ pub mod Answer
 pub mod Codec
 pub mod Characters
 pub mod Lists
+pub mod Numbers
 pub mod Refusals
 pub mod Writes
 pub mod Same

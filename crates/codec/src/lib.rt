@@ -1,10 +1,9 @@
-// What reading, writing and checking answer: the kinds of fault, a step of reading, a number or a
-// flag that was read, and what a check says.
+// What reading, writing and checking answer: the kinds of fault, and the errors of a field, of a message block and of a
+// call; what a reading gives.
 #![tactic(auto)]
 
 ghost use Rattle.std.specs.Prelude.{◌≡◌};
-ghost use Rattle.codec.specs.Refusals.{number_step, flag_step, check_no, fault_no};
-ghost use Rattle.codec.specs.Codec.{first};
+ghost use Rattle.codec.specs.Numbers.{fault_no};
 
 use bits::BitPlace;
 
@@ -38,33 +37,35 @@ pub enum Fault {
 }
 
 // The number of a refusal, by which a host and the papers name it.
-pub fn fault_number(f: Fault) -> u32
-    ensures { result ≡ fault_no f }
-{
-    match f {
-        Fault::Short => 1,
-        Fault::Version => 2,
-        Fault::Code => 3,
-        Fault::BadText => 4,
-        Fault::Count => 5,
-        Fault::Forms => 6,
-        Fault::Security => 7,
-        Fault::Fill => 9,
-        Fault::NoRoom => 11,
-        Fault::TooLong => 12,
-        Fault::RuleA => 41,
-        Fault::RuleB => 42,
-        Fault::RuleC => 43,
-        Fault::RuleD => 44,
-        Fault::RuleE => 45,
-        Fault::RuleF => 46,
-        Fault::RuleG => 47,
-        Fault::RuleH => 48,
-        Fault::RuleI => 49,
-        Fault::HeaderSize => 51,
-        Fault::SizeSum => 52,
-        Fault::NoBody => 53,
-        Fault::NeedlessBody => 54,
+impl From<Fault> for u32 {
+    ghost from_gives = { λ f n. n ≡ fault_no f };
+
+    fn from(f: Fault) -> u32 {
+        match f {
+            Fault::Short => 1,
+            Fault::Version => 2,
+            Fault::Code => 3,
+            Fault::BadText => 4,
+            Fault::Count => 5,
+            Fault::Forms => 6,
+            Fault::Security => 7,
+            Fault::Fill => 9,
+            Fault::NoRoom => 11,
+            Fault::TooLong => 12,
+            Fault::RuleA => 41,
+            Fault::RuleB => 42,
+            Fault::RuleC => 43,
+            Fault::RuleD => 44,
+            Fault::RuleE => 45,
+            Fault::RuleF => 46,
+            Fault::RuleG => 47,
+            Fault::RuleH => 48,
+            Fault::RuleI => 49,
+            Fault::HeaderSize => 51,
+            Fault::SizeSum => 52,
+            Fault::NoBody => 53,
+            Fault::NeedlessBody => 54,
+        }
     }
 }
 
@@ -72,69 +73,67 @@ pub fn fault_number(f: Fault) -> u32
 #[derive(Clone, Copy)]
 pub struct BlockNumber(pub u32);
 
-// How reading a group went on: at the next place, or with a refusal's kind and place.
+// Why the reading of a field was refused: the kind of fault, and the bit place.
 #[derive(Clone, Copy)]
-pub enum Step {
-    Next(BitPlace),
-    Refused(Fault, BitPlace),
+pub struct FieldFault {
+    pub fault: Fault,
+    pub place: BitPlace,
 }
 
-// A number with the next place, or a refusal.
+// How reading a group went on: at the next place, or with a refusal.
+pub type Step = Result<BitPlace, FieldFault>;
+
+// A value that was read with the next place, or a refusal.
+pub type Reading<T> = Result<(T, BitPlace), FieldFault>;
+
+// What the rules or the sizes refuse: the kind of fault, and the message block that breaks it.
 #[derive(Clone, Copy)]
-pub enum Number {
-    Got(u32, BitPlace),
-    Refused(Fault, BitPlace),
+pub struct BlockFault {
+    pub fault: Fault,
+    pub block: BlockNumber,
 }
 
-// A presence or recurrence bit with the next place, or a refusal.
+// Why a call is refused: the kind of fault, the bit place, and the message block, 0 where the refusal is about none.
 #[derive(Clone, Copy)]
-pub enum Flag {
-    Got(bool, BitPlace),
-    Refused(Fault, BitPlace),
+pub struct Refusal<F> {
+    pub fault: F,
+    pub place: BitPlace,
+    pub block: BlockNumber,
 }
 
-impl Number {
-    pub fn step(self) -> Step
-        ensures { result ≡ number_step self }
-    {
-        match self {
-            Number::Got(_, p) => Step::Next(p),
-            Number::Refused(f, p) => Step::Refused(f, p),
+// A refusal that tells no place and is about no block.
+impl<F> From<F> for Refusal<F> {
+    ghost from_gives = { λ f r. (r.fault ≡ f) × (r.place.0 ≡ 0) × (r.block.0 ≡ 0) };
+
+    fn from(fault: F) -> Refusal<F> {
+        Refusal {
+            fault,
+            place: BitPlace(0),
+            block: BlockNumber(0),
         }
     }
 }
 
-impl Flag {
-    pub fn step(self) -> Step
-        ensures { result ≡ flag_step self }
-    {
-        match self {
-            Flag::Got(_, p) => Step::Next(p),
-            Flag::Refused(f, p) => Step::Refused(f, p),
+impl From<FieldFault> for Refusal<Fault> {
+    ghost from_gives = { λ e r. (r.fault ≡ e.fault) × (r.place ≡ e.place) × (r.block.0 ≡ 0) };
+
+    fn from(e: FieldFault) -> Refusal<Fault> {
+        Refusal {
+            fault: e.fault,
+            place: e.place,
+            block: BlockNumber(0),
         }
     }
 }
 
-// What the writer's check of a value says.
-#[derive(Clone, Copy)]
-pub enum Check {
-    Fine,
-    Bad(Fault),
-}
+impl From<BlockFault> for Refusal<Fault> {
+    ghost from_gives = { λ e r. (r.fault ≡ e.fault) × (r.place.0 ≡ 0) × (r.block ≡ e.block) };
 
-// What the rules and the sizes say of a record's blocks.
-#[derive(Clone, Copy)]
-pub enum Finding {
-    Fine,
-    Bad(Fault, BlockNumber),
-}
-
-// The first refusal of two checks.
-pub fn earlier(a: Check, b: Check) -> Check
-    ensures { check_no result ≡ first (check_no a) (check_no b) }
-{
-    match a {
-        Check::Fine => b,
-        Check::Bad(f) => Check::Bad(f),
+    fn from(e: BlockFault) -> Refusal<Fault> {
+        Refusal {
+            fault: e.fault,
+            place: BitPlace(0),
+            block: e.block,
+        }
     }
 }

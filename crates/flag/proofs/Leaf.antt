@@ -1,7 +1,8 @@
 -- What the octets of a slice tell of a flag at a place, what writing it leaves behind, and a recurrence bit by the room behind it. Assumes nothing.
 use Prim.Native.Nat.{ℕ, zero, suc, ◌+◌, ◌*◌, ◌<◌, ◌≤◌, ◌^◌}
-use mathlib.Core.Path.{◌≡◌, refl, ap, ◌∙◌}
-use mathlib.Core.Bool.{Bool, true, false}
+use mathlib.Core.Path.{◌≡◌, refl, ap, sym, ◌∙◌}
+use lib.Dec.{eqb}
+use mathlib.Core.Bool.{Bool, true, false, not, beq}
 use mathlib.Core.List.{List, [], ◌∷◌}
 use lib.ListN.{length, take, drop, drop_of_length-le}
 use lib.Seq.{drop-cons}
@@ -10,9 +11,15 @@ use Rattle.bits.specs.Bits.{low_bits, bits_of, value, weight, field, splice}
 use Rattle.bits.proofs.OctetBits.{length-bits_of}
 use Rattle.bits.proofs.Fields.{field_lt}
 use Rattle.codec.specs.Answer.{got, refused}
-use Rattle.codec.specs.Codec.{must, flag, first_bit}
+use Rattle.codec.specs.Codec.{must, same, flag, first_bit}
 use Rattle.codec.specs.Lists.{recurs}
 use Rattle.codec.specs.Writes.{Writes}
+
+-- a bit by the number that it is read as
+is_one : (v : ℕ) → v < 2 → v ≡ weight (eqb v 1)
+is_one zero h = refl
+is_one (suc zero) h = refl
+is_one (suc (suc v)) h = absurd (omega arith)
 
 -- a flag's reading
 module _ (s : List ℕ) (k : ℕ) where
@@ -32,14 +39,9 @@ module _ (s : List ℕ) (k : ℕ) where
   unfolding flag field
   flag-got b h e = first_of (drop k (bits_of s)) (rw (drop-cons (bits_of s) k false (rw length-bits_of h)) (omega arith)) b e
 
-  -- a bit that is not 1 is 0
-  pub bit-none : (v : ℕ) → v ≡ field s k 1 → (v ≡ 1 → ⊥) → field s k 1 ≡ weight false
-  bit-none v e h = go v e h (field_lt s k 1)
-    where
-      go : (v : ℕ) → v ≡ field s k 1 → (v ≡ 1 → ⊥) → field s k 1 < 2 ^ 1 → field s k 1 ≡ 0
-      go zero e h l = omega arith
-      go (suc zero) e h l = absurd (h refl)
-      go (suc (suc v)) e h l = absurd (omega arith)
+  -- the bit as the code reads it
+  pub flag-read : (v : ℕ) → k < 8 * length s → v ≡ field s k 1 → got (eqb v 1) (k + 1) ≡ flag.read (bits_of s) k
+  flag-read v h e = let l : v < 2 = omega (arith, field_lt s k 1) in flag-got (eqb v 1) h (sym e ∙ is_one v l)
 
   pub flag-short : 8 * length s ≤ k → refused 1 k ≡ flag.read (bits_of s) k
   unfolding flag
@@ -65,3 +67,16 @@ pub recurs-some : (n : ℕ) → (n ≡ 0 → ⊥) → recurs n ≡ flag
 unfolding recurs
 recurs-some zero e = absurd (e refl)
 recurs-some (suc n) e = refl
+
+-- what the comparison of two bits tells
+pub same-not : (x b : Bool) → not (beq x b) ≡ true → same x b ≡ false
+same-not true true e = sym e
+same-not true false e = refl
+same-not false true e = refl
+same-not false false e = sym e
+
+pub same-so : (x b : Bool) → not (beq x b) ≡ false → same x b ≡ true
+same-so true true e = refl
+same-so true false e = sym e
+same-so false true e = sym e
+same-so false false e = refl

@@ -4,12 +4,12 @@
 ghost use Rattle.std.specs.Prelude.{◌≡◌, ◌+◌, ◌≤◌, length};
 ghost use Rattle.bits.specs.Bits.{bits_of};
 ghost use Rattle.bits.specs.Units.{datagram_limit};
-ghost use Rattle.codec.specs.Refusals.{fault_no, number_answer, check_no};
+ghost use Rattle.codec.specs.Refusals.{fault_no, answer_of, check_no};
 ghost use Rattle.codec.specs.Writes.{Placed, Room, Writes};
 ghost use Rattle.number.specs.Numbers.{number_of};
 
 use bits::BitPlace;
-use codec::{Check, Fault, Number};
+use codec::{Fault, FieldFault, Reading};
 
 // What the layout says of a number: its bits, and its least and largest legal value. It is said once
 // and serves reading, writing, the check and the end.
@@ -20,49 +20,42 @@ pub struct Range {
     pub most: u32,
 }
 
-pub fn read_number(s: &[u8], at: BitPlace, f: Range, fault: Fault) -> Number
+pub fn read_number(s: &[u8], at: BitPlace, f: Range, fault: Fault) -> Reading<u32>
     requires { (length s.now ≤ datagram_limit) × (f.width ≤ 24) }
-    ensures { number_answer result ≡ (number_of f (fault_no fault)).read (bits_of s.now) at.0 }
+    ensures { answer_of result ≡ (number_of f (fault_no fault)).read (bits_of s.now) at.0 }
 {
     let k = at.0;
     let w = f.width;
     let end = bits::end_place(s);
-    if end.0 < w {
-        return Number::Refused(Fault::Short, at);
-    }
-    if end.0 - w < k {
-        return Number::Refused(Fault::Short, at);
+    if end.0 < w || end.0 - w < k {
+        return Err(FieldFault {
+            fault: Fault::Short,
+            place: at,
+        });
     }
     let v = bits::read_bits(s, at, w);
-    if v < f.least {
-        return Number::Refused(fault, at);
+    if v < f.least || f.most < v {
+        return Err(FieldFault { fault, place: at });
     }
-    if f.most < v {
-        return Number::Refused(fault, at);
-    }
-    Number::Got(v, BitPlace(k + w))
+    Ok((v, BitPlace(k + w)))
 }
 
 pub fn write_number(out: &mut [u8], at: BitPlace, f: Range, v: u32) -> BitPlace
     requires { Room out.old at.0 f.width × (f.width ≤ 24) }
     ensures { Writes (number_of f 3) v out.old out.new at.0 result.0 }
 {
-    let k = at.0;
     let w = f.width;
     bits::write_bits(out, at, w, v);
-    BitPlace(k + w)
+    BitPlace(at.0 + w)
 }
 
-pub fn check_number(f: Range, fault: Fault, x: u32) -> Check
+pub fn check_number(f: Range, fault: Fault, x: u32) -> Result<(), Fault>
     ensures { check_no result ≡ (number_of f (fault_no fault)).check x }
 {
-    if x < f.least {
-        return Check::Bad(fault);
+    if x < f.least || f.most < x {
+        return Err(fault);
     }
-    if f.most < x {
-        return Check::Bad(fault);
-    }
-    Check::Fine
+    Ok(())
 }
 
 pub fn end_number(at: BitPlace, f: Range) -> BitPlace

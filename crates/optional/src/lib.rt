@@ -4,12 +4,12 @@
 ghost use Rattle.std.specs.Prelude.{◌≡◌, ◌+◌, ◌≤◌, length};
 ghost use Rattle.bits.specs.Bits.{bits_of};
 ghost use Rattle.bits.specs.Units.{datagram_limit};
-ghost use Rattle.codec.specs.Refusals.{answer, check_no};
+ghost use Rattle.codec.specs.Refusals.{answer_of, check_no};
 ghost use Rattle.codec.specs.Writes.{Placed, Room, Writes};
 ghost use Rattle.optional.specs.Optionals.{optional_number};
 
 use bits::BitPlace;
-use codec::{Check, Fault, Flag, Number, Step};
+use codec::{Fault, Reading};
 use flag::{end_flag, read_flag, write_flag};
 use number::{Range, check_number, end_number, read_number, write_number};
 
@@ -21,51 +21,16 @@ pub struct OptionalNumber {
     pub value: u32,
 }
 
-#[derive(Clone, Copy)]
-pub struct OptionalRead {
-    pub step: Step,
-    pub number: OptionalNumber,
-}
-
-const ABSENT: OptionalNumber = OptionalNumber {
-    present: false,
-    value: 0,
-};
-
-pub fn read_optional(s: &[u8], at: BitPlace, f: Range) -> OptionalRead
+pub fn read_optional(s: &[u8], at: BitPlace, f: Range) -> Reading<OptionalNumber>
     requires { (length s.now ≤ datagram_limit) × (f.width ≤ 24) }
-    ensures { answer result.step result.number ≡ (optional_number f).read (bits_of s.now) at.0 }
+    ensures { answer_of result ≡ (optional_number f).read (bits_of s.now) at.0 }
 {
-    let a = read_flag(s, at);
-    let Flag::Got(present, at) = a else {
-        return OptionalRead {
-            step: a.step(),
-            number: ABSENT,
-        };
-    };
+    let (present, next) = read_flag(s, at)?;
     if present {
-        let b = read_number(s, at, f, Fault::Code);
-        let Number::Got(value, at) = b else {
-            return OptionalRead {
-                step: b.step(),
-                number: ABSENT,
-            };
-        };
-        return OptionalRead {
-            step: Step::Next(at),
-            number: OptionalNumber {
-                present: present,
-                value: value,
-            },
-        };
+        let (value, end) = read_number(s, next, f, Fault::Code)?;
+        return Ok((OptionalNumber { present, value }, end));
     }
-    OptionalRead {
-        step: Step::Next(at),
-        number: OptionalNumber {
-            present: present,
-            value: 0,
-        },
-    }
+    Ok((OptionalNumber { present, value: 0 }, next))
 }
 
 pub fn write_optional(out: &mut [u8], at: BitPlace, f: Range, x: OptionalNumber) -> BitPlace
@@ -80,23 +45,21 @@ pub fn write_optional(out: &mut [u8], at: BitPlace, f: Range, x: OptionalNumber)
     next
 }
 
-pub fn check_optional(f: Range, x: OptionalNumber) -> Check
+pub fn check_optional(f: Range, x: OptionalNumber) -> Result<(), Fault>
     ensures { check_no result ≡ (optional_number f).check x }
 {
-    let present = x.present;
-    if present {
+    if x.present {
         return check_number(f, Fault::Code, x.value);
     }
-    Check::Fine
+    Ok(())
 }
 
 pub fn end_optional(at: BitPlace, f: Range, x: OptionalNumber) -> BitPlace
     requires { Placed at.0 ((optional_number f).size x) }
     ensures { result.0 ≡ at.0 + (optional_number f).size x }
 {
-    let present = x.present;
     let behind = end_flag(at);
-    if present {
+    if x.present {
         return end_number(behind, f);
     }
     behind

@@ -1,14 +1,15 @@
 // A text of 7-bit characters, read.
 #![tactic(auto)]
 
-ghost use Rattle.std.specs.Prelude.{◌≡◌, ◌≤◌, length};
+ghost use Rattle.std.specs.Prelude.{◌≡◌, ◌≤◌, ◌==◌, if◌then◌else◌, length};
+ghost use Rattle.codec.specs.declared.Fault.TheVariants.{BadText};
 ghost use Rattle.bits.specs.Bits.{bits_of};
 ghost use Rattle.bits.specs.Units.{datagram_limit};
-ghost use Rattle.codec.specs.Refusals.{answer};
+ghost use Rattle.codec.specs.Refusals.{answer_of};
 ghost use Rattle.text.specs.Texts.{text, no_text};
 
 use bits::BitPlace;
-use codec::{Fault, Number, Step};
+use codec::{Fault, FieldFault, Reading};
 use number::{Range, read_number};
 
 // The characters of a text and their count. The cells behind them are unused.
@@ -17,12 +18,6 @@ use number::{Range, read_number};
 pub struct Text {
     pub chars: [u8; 64],
     pub len: u32,
-}
-
-#[derive(Clone, Copy)]
-pub struct TextRead {
-    pub step: Step,
-    pub text: Text,
 }
 
 // A character or the marker that ends a text.
@@ -43,54 +38,35 @@ pub fn no_text() -> Text
     }
 }
 
-// A refusal on the way; what was read is not looked at.
-fn stopped_text(step: Step) -> TextRead
-    ensures { result.step ≡ step }
+// The text in the first cells; one without a character is refused at its first bit.
+fn text_of(chars: [u8; 64], count: usize, at: BitPlace, end: BitPlace) -> Reading<Text>
+    requires { count ≤ 64 }
+    ensures { result ≡ (if count == 0 then Err (record { fault = BadText; place = at }) else Ok (record { chars = chars; len = count }, end)) }
 {
-    TextRead {
-        step: step,
-        text: no_text(),
+    if count == 0 {
+        return Err(FieldFault {
+            fault: Fault::BadText,
+            place: at,
+        });
     }
+    let len = count as u32;
+    Ok((Text { chars, len }, end))
 }
 
-// A text of at most `most` characters. The loop yields the count of characters: at the marker, at the
-// maximum, behind which there is no marker, or where a character lacks bits.
-pub fn read_text(s: &[u8], at: BitPlace, most: usize) -> TextRead
+// A text of at most `most` characters, up to the marker; behind the last of so many there is none.
+pub fn read_text(s: &[u8], at: BitPlace, most: usize) -> Reading<Text>
     requires { (length s.now ≤ datagram_limit) × (most ≤ 64) }
-    ensures { answer result.step result.text ≡ (text most).read (bits_of s.now) at.0 }
+    ensures { answer_of result ≡ (text most).read (bits_of s.now) at.0 }
 {
     let mut chars = [0u8; 64];
-    let mut n: usize = 0;
     let mut place = at;
-    let mut step = Step::Next(at);
-    let count = loop {
-        if most <= n {
-            break n;
-        }
-        let a = read_number(s, place, CHARACTER, Fault::Code);
-        let Number::Got(v, next) = a else {
-            step = a.step();
-            break n;
-        };
-        place = next;
-        step = Step::Next(next);
+    for n in 0..most {
+        let (v, next) = read_number(s, place, CHARACTER, Fault::Code)?;
         if v == MARKER {
-            break n;
+            return text_of(chars, n, at, next);
         }
         chars[n] = (v % 128) as u8;
-        n += 1;
-    };
-    let Step::Next(end) = step else {
-        return stopped_text(step);
-    };
-    if count == 0 {
-        return stopped_text(Step::Refused(Fault::BadText, at));
+        place = next;
     }
-    TextRead {
-        step: Step::Next(end),
-        text: Text {
-            chars: chars,
-            len: count as u32,
-        },
-    }
+    text_of(chars, most, at, place)
 }

@@ -1,18 +1,15 @@
 -- `flag::read_must` meets its contract. Assumes nothing.
-use Rattle.codec.specs.Answer.{next}
-use Rattle.codec.specs.Codec.{tested}
-use Rattle.codec.specs.Refusals.{flag_answer}
-use Rattle.codec.proofs.Told.{flag-told}
+use Rattle.codec.specs.Refusals.{answer_of}
+use Rattle.codec.proofs.Compose.{handed, ended_with, stopping, reading-got, tested-refused, tested-got}
+use Rattle.flag.proofs.Leaf.{same-not, same-so}
 use Rattle.flag.proofs.read_must.Goals as goal
 
-pub returns-in_default : goal.returns-in_default
-unfolding tested next flag_answer
-returns-in_default c = rw (← c.read_flag-a.ensures, (flag-told c.read_flag-a.result c.in_default.in_default-own.keys2).2)
+pub returns-in_err-x : goal.returns-in_err-x
+returns-in_err-x c = rw (handed _ c.in_err-x.field-0.0 c.from_residual.ensures.1) (search (stopping, c.in_err-x.ensures) depth 12)
 
-pub returns-then-agree : goal.returns-then-agree
-unfolding tested next flag_answer
-returns-then-agree c = rw (← c.read_flag-a.ensures, c.in-Got.is, ← c.agree.ensures, c.if-agree.true)
+pub returns-then-x-b : goal.returns-then-x-b
+unfolding answer_of
+returns-then-x-b c = tested-refused _ _ _ _ _ _ _ (reading-got _ _ _ _ _ c.in_ok-x.ensures) (same-not _ _ c.if-x-b.true)
 
 pub returns : goal.returns
-unfolding tested next flag_answer
-returns c = rw (← c.read_flag-a.ensures, c.in-Got.is, ← c.agree.ensures, c.if-agree.false)
+returns c = ended_with _ _ _ _ _ (tested-got _ _ _ _ _ _ _ (reading-got _ _ _ _ _ c.in_ok-x.ensures) (same-so _ _ c.if-x-b.false))

@@ -1,10 +1,6 @@
 -- `flag::write_flag` meets its contract. Assumes nothing.
-use mathlib.Core.Bool.{true, false}
 use Rattle.flag.proofs.Leaf.{flag-writes}
 use Rattle.flag.proofs.write_flag.Goals as goal
 
-pub returns-then-b : goal.returns-then-b
-returns-then-b c = rw c.if-b.true (flag-writes true _ _ _ c.write_bits.ensures)
-
 pub returns : goal.returns
-returns c = rw c.if-b.false (flag-writes false _ _ _ c.write_bits-2.ensures)
+returns c = flag-writes _ _ _ _ c.write_bits.ensures

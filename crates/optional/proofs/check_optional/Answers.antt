@@ -4,9 +4,9 @@ use Rattle.codec.proofs.Compose.{checking}
 use Rattle.optional.specs.Optionals.{optional_number}
 use Rattle.optional.proofs.check_optional.Goals as goal
 
-pub returns-then-present : goal.returns-then-present
+pub returns-then-x : goal.returns-then-x
 unfolding optional_number check_no
-returns-then-present c = search checking depth 12
+returns-then-x c = search checking depth 12
 
 pub returns : goal.returns
 unfolding optional_number check_no

@@ -12,12 +12,12 @@ end_flag-behind-requires c = search rules
 
 pub end_number-requires : goal.end_number-requires
 unfolding optional_number ◌then_by◌ viewed flag number
-end_number-requires c = let a = c.args in let e = present-size 0 (number_of a.f 3) a.x.present a.x.value c.if-present.true in search rules
+end_number-requires c = let a = c.args in let e = present-size 0 (number_of a.f 3) a.x.present a.x.value c.if-x.true in search rules
 
-pub returns-then-present : goal.returns-then-present
+pub returns-then-x : goal.returns-then-x
 unfolding optional_number ◌then_by◌ viewed flag number
-returns-then-present c = let a = c.args in let e = present-size 0 (number_of a.f 3) a.x.present a.x.value c.if-present.true in search rules
+returns-then-x c = let a = c.args in let e = present-size 0 (number_of a.f 3) a.x.present a.x.value c.if-x.true in search rules
 
 pub returns : goal.returns
 unfolding optional_number ◌then_by◌ viewed flag
-returns c = let a = c.args in let e = absent-size 0 (number_of a.f 3) a.x.present a.x.value c.if-present.false in search rules
+returns c = let a = c.args in let e = absent-size 0 (number_of a.f 3) a.x.present a.x.value c.if-x.false in search rules
