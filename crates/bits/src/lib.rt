@@ -25,12 +25,20 @@ pub fn whole_octets(end: BitPlace) -> OctetSize
     OctetSize(k / 8 + begun)
 }
 
-// The place behind the last bit of s.
-pub fn end_place(s: &[u8]) -> BitPlace
-    requires { length s.now ≤ datagram_limit }
-    ensures { result.0 ≡ 8 * length s.now }
-{
-    BitPlace(8 * s.len())
+// The octets of one datagram, no more than a datagram can hold.
+#[derive(Clone, Copy)]
+pub struct Datagram<'a> {
+    pub octets: &'a [u8],
+    ghost fits: { length octets.now ≤ datagram_limit },
+}
+
+impl<'a> Datagram<'a> {
+    // The place behind the last bit.
+    pub fn end(self) -> BitPlace
+        ensures { result.0 ≡ 8 * length self.entry.octets.now }
+    {
+        BitPlace(8 * self.octets.len())
+    }
 }
 
 // The smaller of two numbers.

@@ -25,6 +25,11 @@ unfoldable pub answer_of : {A : Type 0} → Reading A → Answer A
 answer_of (Ok r) = got r.0 r.1.0
 answer_of (Err e) = refused (fault_no e.fault) e.place.0
 
+-- how reading went on, without the value
+abbrev pub step_of : {A : Type 0} → Reading A → Step
+step_of (Ok r) = Ok r.1
+step_of (Err e) = Err e
+
 -- the number of a check's refusal, 0 for none
 unfoldable pub check_no : {A : Type 0} → Result A Fault → ℕ
 check_no (Ok x) = 0

@@ -3,36 +3,33 @@
 #![tactic(auto)]
 
 ghost use Rattle.std.specs.Prelude.{◌≡◌, ◌+◌, ◌≤◌, false, length};
-ghost use Rattle.bits.specs.Bits.{bits_of};
-ghost use Rattle.bits.specs.Units.{datagram_limit};
+ghost use Rattle.bits.specs.Datagrams.{bits_in};
 ghost use Rattle.codec.specs.Codec.{flag, must};
 ghost use Rattle.codec.specs.Lists.{recurs};
 ghost use Rattle.codec.specs.Refusals.{fault_no, answer, answer_of, check_no};
 ghost use Rattle.codec.specs.Writes.{Placed, Room, Writes};
 
-use bits::BitPlace;
+use bits::{BitPlace, Datagram};
 use codec::{Fault, FieldFault, Reading, Step};
 
-pub fn read_flag(s: &[u8], at: BitPlace) -> Reading<bool>
-    requires { length s.now ≤ datagram_limit }
-    ensures { answer_of result ≡ flag.read (bits_of s.now) at.0 }
+pub fn read_flag(s: Datagram, at: BitPlace) -> Reading<bool>
+    ensures { answer_of result ≡ flag.read (bits_in s.entry) at.0 }
 {
     let k = at.0;
-    let end = bits::end_place(s);
+    let end = s.end();
     if end.0 <= k {
         return Err(FieldFault {
             fault: Fault::Short,
             place: at,
         });
     }
-    let b = bits::read_bits(s, at, 1);
+    let b = bits::read_bits(s.octets, at, 1);
     Ok((b == 1, BitPlace(k + 1)))
 }
 
 // A bit that has to be b.
-pub fn read_must(s: &[u8], at: BitPlace, b: bool, fault: Fault) -> Reading<bool>
-    requires { length s.now ≤ datagram_limit }
-    ensures { answer_of result ≡ (must b (fault_no fault)).read (bits_of s.now) at.0 }
+pub fn read_must(s: Datagram, at: BitPlace, b: bool, fault: Fault) -> Reading<bool>
+    ensures { answer_of result ≡ (must b (fault_no fault)).read (bits_in s.entry) at.0 }
 {
     let (x, next) = read_flag(s, at)?;
     if x != b {
@@ -42,9 +39,8 @@ pub fn read_must(s: &[u8], at: BitPlace, b: bool, fault: Fault) -> Reading<bool>
 }
 
 // A bit that has to be 0 and for which there is no cell.
-pub fn read_zero(s: &[u8], at: BitPlace, fault: Fault) -> Step
-    requires { length s.now ≤ datagram_limit }
-    ensures { answer result false ≡ (must false (fault_no fault)).read (bits_of s.now) at.0 }
+pub fn read_zero(s: Datagram, at: BitPlace, fault: Fault) -> Step
+    ensures { answer result false ≡ (must false (fault_no fault)).read (bits_in s.entry) at.0 }
 {
     let (x, next) = read_flag(s, at)?;
     if x {
@@ -54,9 +50,8 @@ pub fn read_zero(s: &[u8], at: BitPlace, fault: Fault) -> Step
 }
 
 // A recurrence bit with room for `left` entries behind its own.
-pub fn read_recurs(s: &[u8], at: BitPlace, left: usize) -> Reading<bool>
-    requires { length s.now ≤ datagram_limit }
-    ensures { answer_of result ≡ (recurs left).read (bits_of s.now) at.0 }
+pub fn read_recurs(s: Datagram, at: BitPlace, left: usize) -> Reading<bool>
+    ensures { answer_of result ≡ (recurs left).read (bits_in s.entry) at.0 }
 {
     if left == 0 {
         return read_must(s, at, false, Fault::Count);

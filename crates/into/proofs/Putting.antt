@@ -9,7 +9,7 @@ use lib.Seq.{take_at, drop-append-add, get_or-drop}
 use borrow.Rule.Slice.PartMut.{put_mid, mid_of}
 use Rattle.codec.specs.Codec.{Codec, ◌&◌}
 use Rattle.codec.specs.Lists.{recurs, listed, cells}
-use Rattle.codec.specs.declared.Step.{Step}
+use Rattle.codec.specs.declared.FieldFault.{FieldFault}
 use Rattle.codec.proofs.Lawful.{Lawful}
 use Rattle.codec.proofs.Compose.{Gets, Stops}
 use Rattle.codec.proofs.ListLoops.{Listing, listing_none, listing-more, listing-end, listing-stop}
@@ -115,5 +115,5 @@ module _ {A : Type 0} (z : A) (c : Codec A) (to : A → List ℕ) (Typed : A →
       pub putting-typed : (length (set t.list n x) ≡ room) × Each Typed (set t.list n x)
       putting-typed = (length-set t.list n x ∙ t.listing.filled.len, each_set t.list n x t.typed typed)
 
-    pub putting-stop : (most fault : ℕ) (st : Step) → Stops (recurs (left - n) & c) bs q st → Stops (cells z room most fault (listed z c left)) bs p st
-    putting-stop most fault st u = listing-stop z c bs room most fault left p t.list n q t.listing st u
+    pub putting-stop : (most fault : ℕ) (f : FieldFault) → Stops (recurs (left - n) & c) bs q f → Stops (cells z room most fault (listed z c left)) bs p f
+    putting-stop most fault f u = listing-stop z c bs room most fault left p t.list n q t.listing f u

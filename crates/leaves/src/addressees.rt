@@ -16,8 +16,5 @@ pub fn room_behind(x: &[u8]) -> usize
     }
     let held = &x[in_optional_addresses::ADDRESSES..in_optional_addresses::END];
     let count = load_word(&held[in_addresses::COUNT..in_addresses::END]) as usize;
-    if 16 < count {
-        return 0;
-    }
-    16 - count
+    16usize.saturating_sub(count)
 }

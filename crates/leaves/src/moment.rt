@@ -14,11 +14,7 @@ fn load_date(x: &[u8]) -> Date
     let year = load_word(&x[in_date::YEAR..in_date::MONTH]);
     let month = load_word(&x[in_date::MONTH..in_date::DAY]);
     let day = load_word(&x[in_date::DAY..in_date::END]);
-    Date {
-        year: year,
-        month: month,
-        day: day,
-    }
+    Date { year, month, day }
 }
 
 fn load_time(x: &[u8]) -> Time
@@ -29,9 +25,9 @@ fn load_time(x: &[u8]) -> Time
     let minute = load_word(&x[in_time::MINUTE..in_time::SECOND]);
     let second = load_word(&x[in_time::SECOND..in_time::END]);
     Time {
-        hour: hour,
-        minute: minute,
-        second: second,
+        hour,
+        minute,
+        second,
     }
 }
 
@@ -41,10 +37,7 @@ fn load_dtg(x: &[u8]) -> Dtg
 {
     let date = load_date(&x[in_dtg::DATE..in_dtg::TIME]);
     let time = load_time(&x[in_dtg::TIME..in_dtg::END]);
-    Dtg {
-        date: date,
-        time: time,
-    }
+    Dtg { date, time }
 }
 
 pub fn load_stamp(x: &[u8]) -> Stamp
@@ -53,8 +46,5 @@ pub fn load_stamp(x: &[u8]) -> Stamp
 {
     let dtg = load_dtg(&x[in_stamp::DTG..in_stamp::EXTENSION]);
     let extension = load_optional(&x[in_stamp::EXTENSION..in_stamp::END]);
-    Stamp {
-        dtg: dtg,
-        extension: extension,
-    }
+    Stamp { dtg, extension }
 }

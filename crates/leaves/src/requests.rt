@@ -14,8 +14,8 @@ pub fn load_requests(x: &[u8]) -> Requests
     let acknowledge = load_flag(&x[in_requests::ACKNOWLEDGE..in_requests::REPLY]);
     let reply = load_flag(&x[in_requests::REPLY..in_requests::END]);
     Requests {
-        machine: machine,
-        acknowledge: acknowledge,
-        reply: reply,
+        machine,
+        acknowledge,
+        reply,
     }
 }

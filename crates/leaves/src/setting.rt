@@ -51,9 +51,9 @@ pub fn setting_of(h: &[u8]) -> Setting
     let sized = load_flag(&h[in_header::SIZED..in_header::BLOCKS]);
     let count = block_count(h);
     Setting {
-        originator: originator,
-        compression: compression,
-        sized: sized,
+        originator,
+        compression,
+        sized,
         several: 2 <= count,
     }
 }

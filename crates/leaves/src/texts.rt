@@ -1,5 +1,5 @@
 // Texts.
-ghost use Rattle.std.specs.Prelude.{◌≡◌, ◌+◌, ◌≤◌, max, length};
+ghost use Rattle.std.specs.Prelude.{◌≡◌, ◌+◌, ◌≤◌, length};
 ghost use Rattle.codec.specs.Refusals.{check_no};
 ghost use Rattle.codec.specs.Writes.{Placed, Room, Writes};
 ghost use Rattle.text.specs.Texts.{text};
@@ -7,44 +7,32 @@ ghost use Rattle.record_octets.specs.Record.{size_of_text, text_in};
 
 use bits::BitPlace;
 use cells::load_word;
-use codec::{Check, Fault};
+use codec::Fault;
 use number::write_number;
 use record_octets::in_text;
 use text::{CHARACTER, MARKER};
 
-// The larger of two characters.
-fn larger(a: u8, b: u8) -> u8
-    ensures { result ≡ max a b }
-{
-    if a < b { b } else { a }
-}
-
 // A text in the cells for its characters, with its count.
-fn check_characters(most: usize, chars: &[u8], count: u32) -> Check
+fn check_characters(most: usize, chars: &[u8], count: u32) -> Result<(), Fault>
     requires { (most ≤ 64) × (length chars.now ≡ 64) }
     ensures { check_no result ≡ (text most).check (record { chars = chars.entry.now; len = count }) }
 {
     let len = count as usize;
-    if most < len {
-        return Check::Bad(Fault::BadText);
-    }
-    if len == 0 {
-        return Check::Bad(Fault::BadText);
+    if most < len || len == 0 {
+        return Err(Fault::BadText);
     }
     // the highest is judged at the end: a loop with one way out goes many characters at a time
     let mut highest: u8 = 0;
-    let mut i: usize = 0;
-    while i < len {
-        highest = larger(highest, chars[i]);
-        i += 1;
+    for i in 0..len {
+        highest = highest.max(chars[i]);
     }
     if 126 < highest {
-        return Check::Bad(Fault::BadText);
+        return Err(Fault::BadText);
     }
-    Check::Fine
+    Ok(())
 }
 
-pub fn check_text(most: usize, x: &[u8]) -> Check
+pub fn check_text(most: usize, x: &[u8]) -> Result<(), Fault>
     requires { (most ≤ 64) × (length x.now ≡ size_of_text) }
     ensures { check_no result ≡ (text most).check (text_in x.now) }
 {
@@ -69,15 +57,12 @@ fn write_characters(out: &mut [u8], at: BitPlace, most: usize, chars: &[u8], cou
     ensures { Writes (text most) (record { chars = chars.entry.now; len = count }) out.old out.new at.0 result.0 }
 {
     let len = count as usize;
-    let mut i: usize = 0;
     let mut place = at;
-    while i < most {
+    for i in 0..most {
         if len <= i {
             return write_number(out, place, CHARACTER, MARKER);
         }
-        let v = chars[i] as u32;
-        place = write_number(out, place, CHARACTER, v);
-        i += 1;
+        place = write_number(out, place, CHARACTER, chars[i] as u32);
     }
     place
 }

@@ -2,13 +2,12 @@
 #![tactic(auto)]
 
 ghost use Rattle.std.specs.Prelude.{◌≡◌, ◌+◌, ◌≤◌, length};
-ghost use Rattle.bits.specs.Bits.{bits_of};
-ghost use Rattle.bits.specs.Units.{datagram_limit};
+ghost use Rattle.bits.specs.Datagrams.{bits_in};
 ghost use Rattle.codec.specs.Refusals.{fault_no, answer_of, check_no};
 ghost use Rattle.codec.specs.Writes.{Placed, Room, Writes};
 ghost use Rattle.number.specs.Numbers.{number_of};
 
-use bits::BitPlace;
+use bits::{BitPlace, Datagram};
 use codec::{Fault, FieldFault, Reading};
 
 // What the layout says of a number: its bits, and its least and largest legal value. It is said once
@@ -20,20 +19,20 @@ pub struct Range {
     pub most: u32,
 }
 
-pub fn read_number(s: &[u8], at: BitPlace, f: Range, fault: Fault) -> Reading<u32>
-    requires { (length s.now ≤ datagram_limit) × (f.width ≤ 24) }
-    ensures { answer_of result ≡ (number_of f (fault_no fault)).read (bits_of s.now) at.0 }
+pub fn read_number(s: Datagram, at: BitPlace, f: Range, fault: Fault) -> Reading<u32>
+    requires { f.width ≤ 24 }
+    ensures { answer_of result ≡ (number_of f (fault_no fault)).read (bits_in s.entry) at.0 }
 {
     let k = at.0;
     let w = f.width;
-    let end = bits::end_place(s);
+    let end = s.end();
     if end.0 < w || end.0 - w < k {
         return Err(FieldFault {
             fault: Fault::Short,
             place: at,
         });
     }
-    let v = bits::read_bits(s, at, w);
+    let v = bits::read_bits(s.octets, at, w);
     if v < f.least || f.most < v {
         return Err(FieldFault { fault, place: at });
     }

@@ -2,13 +2,12 @@
 #![tactic(auto)]
 
 ghost use Rattle.std.specs.Prelude.{◌≡◌, ◌+◌, ◌≤◌, length};
-ghost use Rattle.bits.specs.Bits.{bits_of};
-ghost use Rattle.bits.specs.Units.{datagram_limit};
+ghost use Rattle.bits.specs.Datagrams.{bits_in};
 ghost use Rattle.codec.specs.Refusals.{answer_of, check_no};
 ghost use Rattle.codec.specs.Writes.{Placed, Room, Writes};
 ghost use Rattle.optional.specs.Optionals.{optional_number};
 
-use bits::BitPlace;
+use bits::{BitPlace, Datagram};
 use codec::{Fault, Reading};
 use flag::{end_flag, read_flag, write_flag};
 use number::{Range, check_number, end_number, read_number, write_number};
@@ -21,9 +20,9 @@ pub struct OptionalNumber {
     pub value: u32,
 }
 
-pub fn read_optional(s: &[u8], at: BitPlace, f: Range) -> Reading<OptionalNumber>
-    requires { (length s.now ≤ datagram_limit) × (f.width ≤ 24) }
-    ensures { answer_of result ≡ (optional_number f).read (bits_of s.now) at.0 }
+pub fn read_optional(s: Datagram, at: BitPlace, f: Range) -> Reading<OptionalNumber>
+    requires { f.width ≤ 24 }
+    ensures { answer_of result ≡ (optional_number f).read (bits_in s.entry) at.0 }
 {
     let (present, next) = read_flag(s, at)?;
     if present {

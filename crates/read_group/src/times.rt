@@ -1,7 +1,6 @@
 // A block's G5 originator's DTG, G6 perishability DTG and G7 requests.
 ghost use Rattle.std.specs.Prelude.{◌≡◌, ◌≤◌, length};
-ghost use Rattle.bits.specs.Bits.{bits_of};
-ghost use Rattle.bits.specs.Units.{datagram_limit};
+ghost use Rattle.bits.specs.Datagrams.{bits_in};
 ghost use Rattle.cells.specs.Cells.{zeros};
 ghost use Rattle.header.specs.Table.{optional_stamp, optional_dtg, requests, optional_requests, times};
 ghost use Rattle.into.specs.Into.{Into};
@@ -9,9 +8,9 @@ ghost use Rattle.record_octets.specs.Record.{size_of_optional_stamp, optional_st
 ghost use Rattle.record_octets.specs.Typed.{TypedOptionalStamp, TypedOptionalDtg, TypedTimes};
 
 use crate::dtg::{read_dtg, read_stamp};
-use bits::BitPlace;
+use bits::{BitPlace, Datagram};
 use cells::{store_flag, store_mark};
-use codec::{Flag, Step};
+use codec::Step;
 use flag::read_flag;
 use read_leaves::numbers::read_mark;
 use record_octets::{
@@ -19,14 +18,11 @@ use record_octets::{
 };
 
 // G5.
-pub fn read_optional_stamp(s: &[u8], at: BitPlace, x: &mut [u8]) -> Step
-    requires { (length s.now ≤ datagram_limit) × (x.old ≡ zeros size_of_optional_stamp) × (length x.old ≡ size_of_optional_stamp) }
-    ensures { Into optional_stamp optional_stamp_octets TypedOptionalStamp (bits_of s.now) at.0 result x.new }
+pub fn read_optional_stamp(s: Datagram, at: BitPlace, x: &mut [u8]) -> Step
+    requires { (x.old ≡ zeros size_of_optional_stamp) × (length x.old ≡ size_of_optional_stamp) }
+    ensures { Into optional_stamp optional_stamp_octets TypedOptionalStamp (bits_in s.entry) at.0 result x.new }
 {
-    let a = read_flag(s, at);
-    let Flag::Got(present, at) = a else {
-        return a.step();
-    };
+    let (present, at) = read_flag(s, at)?;
     if present {
         store_mark(
             &mut x[in_optional_stamp::PRESENT..in_optional_stamp::STAMP],
@@ -38,18 +34,15 @@ pub fn read_optional_stamp(s: &[u8], at: BitPlace, x: &mut [u8]) -> Step
             &mut x[in_optional_stamp::STAMP..in_optional_stamp::END],
         );
     }
-    Step::Next(at)
+    Ok(at)
 }
 
 // G6.
-pub fn read_optional_dtg(s: &[u8], at: BitPlace, x: &mut [u8]) -> Step
-    requires { (length s.now ≤ datagram_limit) × (x.old ≡ zeros size_of_optional_dtg) × (length x.old ≡ size_of_optional_dtg) }
-    ensures { Into optional_dtg optional_dtg_octets TypedOptionalDtg (bits_of s.now) at.0 result x.new }
+pub fn read_optional_dtg(s: Datagram, at: BitPlace, x: &mut [u8]) -> Step
+    requires { (x.old ≡ zeros size_of_optional_dtg) × (length x.old ≡ size_of_optional_dtg) }
+    ensures { Into optional_dtg optional_dtg_octets TypedOptionalDtg (bits_in s.entry) at.0 result x.new }
 {
-    let a = read_flag(s, at);
-    let Flag::Got(present, at) = a else {
-        return a.step();
-    };
+    let (present, at) = read_flag(s, at)?;
     if present {
         store_mark(
             &mut x[in_optional_dtg::PRESENT..in_optional_dtg::DTG],
@@ -57,37 +50,28 @@ pub fn read_optional_dtg(s: &[u8], at: BitPlace, x: &mut [u8]) -> Step
         );
         return read_dtg(s, at, &mut x[in_optional_dtg::DTG..in_optional_dtg::END]);
     }
-    Step::Next(at)
+    Ok(at)
 }
 
 // G7.
-pub fn read_requests(s: &[u8], at: BitPlace, x: &mut [u8]) -> Step
-    requires { (length s.now ≤ datagram_limit) × (x.old ≡ zeros size_of_requests) × (length x.old ≡ size_of_requests) }
-    ensures { Into requests requests_octets (λ v. Unit {0}) (bits_of s.now) at.0 result x.new }
+pub fn read_requests(s: Datagram, at: BitPlace, x: &mut [u8]) -> Step
+    requires { (x.old ≡ zeros size_of_requests) × (length x.old ≡ size_of_requests) }
+    ensures { Into requests requests_octets (λ v. Unit {0}) (bits_in s.entry) at.0 result x.new }
 {
-    let step = read_mark(
+    let at = read_mark(
         s,
         at,
         &mut x[in_requests::MACHINE..in_requests::ACKNOWLEDGE],
-    );
-    let Step::Next(at) = step else {
-        return step;
-    };
-    let step = read_mark(s, at, &mut x[in_requests::ACKNOWLEDGE..in_requests::REPLY]);
-    let Step::Next(at) = step else {
-        return step;
-    };
+    )?;
+    let at = read_mark(s, at, &mut x[in_requests::ACKNOWLEDGE..in_requests::REPLY])?;
     read_mark(s, at, &mut x[in_requests::REPLY..in_requests::END])
 }
 
-pub fn read_optional_requests(s: &[u8], at: BitPlace, x: &mut [u8]) -> Step
-    requires { (length s.now ≤ datagram_limit) × (x.old ≡ zeros size_of_optional_requests) × (length x.old ≡ size_of_optional_requests) }
-    ensures { Into optional_requests optional_requests_octets (λ v. Unit {0}) (bits_of s.now) at.0 result x.new }
+pub fn read_optional_requests(s: Datagram, at: BitPlace, x: &mut [u8]) -> Step
+    requires { (x.old ≡ zeros size_of_optional_requests) × (length x.old ≡ size_of_optional_requests) }
+    ensures { Into optional_requests optional_requests_octets (λ v. Unit {0}) (bits_in s.entry) at.0 result x.new }
 {
-    let a = read_flag(s, at);
-    let Flag::Got(present, at) = a else {
-        return a.step();
-    };
+    let (present, at) = read_flag(s, at)?;
     if present {
         store_flag(
             &mut x[in_optional_requests::PRESENT..in_optional_requests::REQUESTS],
@@ -99,20 +83,14 @@ pub fn read_optional_requests(s: &[u8], at: BitPlace, x: &mut [u8]) -> Step
             &mut x[in_optional_requests::REQUESTS..in_optional_requests::END],
         );
     }
-    Step::Next(at)
+    Ok(at)
 }
 
-pub fn read_times(s: &[u8], at: BitPlace, x: &mut [u8]) -> Step
-    requires { (length s.now ≤ datagram_limit) × (x.old ≡ zeros size_of_times) × (length x.old ≡ size_of_times) }
-    ensures { Into times times_octets TypedTimes (bits_of s.now) at.0 result x.new }
+pub fn read_times(s: Datagram, at: BitPlace, x: &mut [u8]) -> Step
+    requires { (x.old ≡ zeros size_of_times) × (length x.old ≡ size_of_times) }
+    ensures { Into times times_octets TypedTimes (bits_in s.entry) at.0 result x.new }
 {
-    let step = read_optional_stamp(s, at, &mut x[in_times::ORIGIN..in_times::PERISH]);
-    let Step::Next(at) = step else {
-        return step;
-    };
-    let step = read_optional_dtg(s, at, &mut x[in_times::PERISH..in_times::REQUESTS]);
-    let Step::Next(at) = step else {
-        return step;
-    };
+    let at = read_optional_stamp(s, at, &mut x[in_times::ORIGIN..in_times::PERISH])?;
+    let at = read_optional_dtg(s, at, &mut x[in_times::PERISH..in_times::REQUESTS])?;
     read_optional_requests(s, at, &mut x[in_times::REQUESTS..in_times::END])
 }

@@ -3,12 +3,11 @@
 
 ghost use Rattle.std.specs.Prelude.{◌≡◌, ◌≤◌, ◌==◌, if◌then◌else◌, length};
 ghost use Rattle.codec.specs.declared.Fault.TheVariants.{BadText};
-ghost use Rattle.bits.specs.Bits.{bits_of};
-ghost use Rattle.bits.specs.Units.{datagram_limit};
+ghost use Rattle.bits.specs.Datagrams.{bits_in};
 ghost use Rattle.codec.specs.Refusals.{answer_of};
 ghost use Rattle.text.specs.Texts.{text, no_text};
 
-use bits::BitPlace;
+use bits::{BitPlace, Datagram};
 use codec::{Fault, FieldFault, Reading};
 use number::{Range, read_number};
 
@@ -54,9 +53,9 @@ fn text_of(chars: [u8; 64], count: usize, at: BitPlace, end: BitPlace) -> Readin
 }
 
 // A text of at most `most` characters, up to the marker; behind the last of so many there is none.
-pub fn read_text(s: &[u8], at: BitPlace, most: usize) -> Reading<Text>
-    requires { (length s.now ≤ datagram_limit) × (most ≤ 64) }
-    ensures { answer_of result ≡ (text most).read (bits_of s.now) at.0 }
+pub fn read_text(s: Datagram, at: BitPlace, most: usize) -> Reading<Text>
+    requires { most ≤ 64 }
+    ensures { answer_of result ≡ (text most).read (bits_in s.entry) at.0 }
 {
     let mut chars = [0u8; 64];
     let mut place = at;

@@ -18,10 +18,6 @@ pub returns-then-not-present : goal.returns-then-not-present
 unfolding optional_addresses_in
 returns-then-not-present c = absent (optional_addresses_in c.args.x.now) (sym c.load_flag-present.ensures ∙ c.if-not-present.true)
 
-pub returns-then-count-gt16 : goal.returns-then-count-gt16
-unfolding optional_addresses_in addresses_in
-returns-then-count-gt16 c = there (optional_addresses_in c.args.x.now) (sym c.load_flag-present.ensures ∙ c.if-not-present.false) _ (omega (arith, c.load_word-count.ensures))
-
 pub returns : goal.returns
 unfolding optional_addresses_in addresses_in
-returns c = there (optional_addresses_in c.args.x.now) (sym c.load_flag-present.ensures ∙ c.if-not-present.false) _ (omega (arith, c.load_word-count.ensures))
+returns c = there (optional_addresses_in c.args.x.now) (sym c.load_flag-present.ensures ∙ c.if-not-present.false) _ (omega (arith, c.saturating_sub.ensures, c.load_word-count.ensures))

@@ -2,4 +2,4 @@
 use Rattle.leaves.proofs.numbers.check_optional.Goals as goal
 
 pub returns : goal.returns
-returns c = rw c.load_optional-n.ensures at c.check_optional.ensures
+returns c = rw c.load_optional.ensures at c.check_optional.ensures

@@ -2,4 +2,4 @@
 use Rattle.leaves.proofs.numbers.write_mark.Goals as goal
 
 pub returns : goal.returns
-returns c = rw c.load_flag-b.ensures at c.write_flag.ensures
+returns c = rw c.load_flag.ensures at c.write_flag.ensures

@@ -2,4 +2,4 @@
 use Rattle.leaves.proofs.numbers.write_word.Goals as goal
 
 pub returns : goal.returns
-returns c = rw c.load_word-v.ensures at c.write_number.ensures
+returns c = rw c.load_word.ensures at c.write_number.ensures

@@ -3,23 +3,25 @@ use borrow.Author.Rules.{rules}
 use borrow.Author.Tests.{le-leb, lt-leb}
 use mathlib.Core.Path.{◌∙◌}
 use native.Mathlib.Omega.{arith}
+use Rattle.std.proofs.lemmas.Grind.{common_steps}
 use Rattle.codec.specs.Refusals.{check_no}
 use Rattle.text.proofs.Checking.{passed_none, passed-more, passed-all, check-long, check-none, check-bad, check-good}
 use Rattle.leaves.proofs.texts.check_characters.Goals as goal
+use Rattle.leaves.proofs.texts.check_characters.Goals.{then-most-len-via-then-most-len, then-most-len-via-else-most-len+then-len-eq0}
 
 pub returns-then-most-len : goal.returns-then-most-len
 unfolding check_no
-returns-then-most-len c = check-long _ _ c.requires.1 (search rules)
-
-pub returns-then-len-eq0 : goal.returns-then-len-eq0
-unfolding check_no
-returns-then-len-eq0 c = check-none _ _ c.requires.1 (omega arith) (search rules)
+returns-then-most-len c =
+    elim c.then-most-len.branch [
+      | then-most-len-via-then-most-len w ↦ check-long _ _ c.requires.1 (search rules)
+      | then-most-len-via-else-most-len+then-len-eq0 w ↦ check-none _ _ c.requires.1 (omega arith) (search rules)
+    ]
 
 pub loop-i-init : goal.loop-i-init
 loop-i-init c = passed_none _ _ _
 
 pub loop-i-preserved : goal.loop-i-preserved
-loop-i-preserved c = passed-more _ _ _ _ _ c.loop-i.invariant c.requires.1 (omega arith) (omega arith) (omega arith) _ c.larger-highest.ensures
+loop-i-preserved c = passed-more _ _ _ _ _ c.loop-i.invariant c.requires.1 (omega arith) (omega arith) (omega arith) _ (grind (arith, common_steps, c.max-highest.ensures))
 
 pub returns-then-highest-gt126 : goal.returns-then-highest-gt126
 unfolding check_no

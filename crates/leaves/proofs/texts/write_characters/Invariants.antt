@@ -1,10 +1,6 @@
 -- `leaves::texts::write_characters` meets its contract. The invariant: what is written behind the characters so far completes the text. Assumes nothing.
-use Prim.Native.Nat.{◌-◌}
 use Rattle.text.proofs.Writing.{Written}
 use Rattle.leaves.proofs.texts.write_characters.Given as goal
 
 abbrev pub invariant-loop-i : goal.invariant-loop-i
 invariant-loop-i l = Written l.chars l.len l.most l.initial.out l.initial.place.0 l.out l.i l.place.0
-
-abbrev pub decreases-loop-i : goal.decreases-loop-i
-decreases-loop-i l = l.most - l.i

@@ -1,6 +1,11 @@
 -- `read_leaves::numbers::read_optional` meets its contract. Assumes nothing.
-use Rattle.record_octets.proofs.Declared.{optional_number-typed}
+use Rattle.codec.proofs.Compose.{reading-stop, getting}
+use Rattle.header.specs.Zero.{no_number}
+use Rattle.into.proofs.Telling.{into-stop, into-got}
 use Rattle.read_leaves.proofs.numbers.read_optional.Goals as goal
 
+pub returns-in_err-n : goal.returns-in_err-n
+returns-in_err-n c = into-stop no_number _ c.in_err-n.field-0.0 c.from_residual.ensures.1 (reading-stop _ _ _ _ c.in_err-n.ensures)
+
 pub returns : goal.returns
-returns c = record { value = c.read_optional-a.result.number; told = c.read_optional-a.ensures; held = λ q e. (c.store_optional.ensures, optional_number-typed c.read_optional-a.result.number _ c.read_optional-a.type_inv.1.1.1.0) }
+returns c = into-got _ _ (search (getting, c.in_ok-n.ensures) depth 6) c.store_optional.ensures.octets c.store_optional.ensures.typed
