@@ -6,47 +6,46 @@ ghost use Rattle.record_octets.specs.Record.{size_of_address, address_in, size_o
 
 use crate::texts::check_unit_name;
 use cells::{entry, load_flag, load_word};
-use codec::{Check, Fault, earlier};
+use codec::Fault;
 use header::layout::URN;
 use leaves::numbers::check_optional;
 use record_octets::{in_address, in_addresses, in_optional_number};
 
 // The URN over its width, both forms or neither, the name: in this order.
-pub fn check_address(x: &[u8]) -> Check
+pub fn check_address(x: &[u8]) -> Result<(), Fault>
     requires { length x.now ≡ size_of_address }
     ensures { check_no result ≡ address.check (address_in x.now) }
 {
-    let urn = check_optional(URN, &x[in_address::URN..in_address::NAME]);
+    check_optional(URN, &x[in_address::URN..in_address::NAME])?;
     let number = &x[in_address::URN..in_address::NAME];
     let present = load_flag(&number[in_optional_number::PRESENT..in_optional_number::VALUE]);
-    let name = check_unit_name(!present, &x[in_address::NAME..in_address::END]);
-    earlier(urn, name)
+    check_unit_name(!present, &x[in_address::NAME..in_address::END])
 }
 
 // The entries of a list of 1 to left + 1 addresses: their count, then the addresses.
-fn check_entries(left: usize, list: &[u8], held: u32) -> Check
+fn check_entries(left: usize, list: &[u8], held: u32) -> Result<(), Fault>
     requires { (left < 16) × (length list.now ≡ size_of_addresses_list) }
     ensures { check_no result ≡ (addresses left).check (addresses_of list.now held) }
 {
     let count = held as usize;
     if left + 1 < count {
-        return Check::Bad(Fault::Count);
+        return Err(Fault::Count);
     }
     if count == 0 {
-        return Check::Bad(Fault::Count);
+        return Err(Fault::Count);
     }
     let mut i: usize = 0;
     while i < count {
         let c = check_address(entry(list, i, in_addresses::ENTRY));
-        let Check::Fine = c else {
+        let Ok(()) = c else {
             return c;
         };
         i += 1;
     }
-    Check::Fine
+    Ok(())
 }
 
-pub fn check_addresses(left: usize, x: &[u8]) -> Check
+pub fn check_addresses(left: usize, x: &[u8]) -> Result<(), Fault>
     requires { (left < 16) × (length x.now ≡ size_of_addresses) }
     ensures { check_no result ≡ (addresses left).check (addresses_in x.now) }
 {

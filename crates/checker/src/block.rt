@@ -9,21 +9,17 @@ use crate::handling::check_handling;
 use crate::references::check_optional_references;
 use crate::response::check_optional_response;
 use crate::times::check_times;
-use codec::{Check, earlier};
+use codec::Fault;
 use record_octets::in_block;
 
 // A message block of a record of that version; the presence bit of G10 has no cell.
-pub fn check_block(version: u32, x: &[u8]) -> Check
+pub fn check_block(version: u32, x: &[u8]) -> Result<(), Fault>
     requires { length x.now ≡ size_of_block }
     ensures { check_no result ≡ (block version).check (block_in x.now) }
 {
-    let format = check_format(version, &x[in_block::FORMAT..in_block::HANDLING]);
-    let handling = check_handling(&x[in_block::HANDLING..in_block::TIMES]);
-    let times = check_times(&x[in_block::TIMES..in_block::RESPONSE]);
-    let response = check_optional_response(&x[in_block::RESPONSE..in_block::REFERENCES]);
-    let references = check_optional_references(&x[in_block::REFERENCES..in_block::END]);
-    let middle = earlier(handling, times);
-    let head = earlier(format, middle);
-    let tail = earlier(response, references);
-    earlier(head, tail)
+    check_format(version, &x[in_block::FORMAT..in_block::HANDLING])?;
+    check_handling(&x[in_block::HANDLING..in_block::TIMES])?;
+    check_times(&x[in_block::TIMES..in_block::RESPONSE])?;
+    check_optional_response(&x[in_block::RESPONSE..in_block::REFERENCES])?;
+    check_optional_references(&x[in_block::REFERENCES..in_block::END])
 }

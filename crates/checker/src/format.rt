@@ -6,29 +6,27 @@ ghost use Rattle.record_octets.specs.Record.{size_of_optional_number, optional_n
 
 use crate::texts::check_optional_text;
 use cells::load_flag;
-use codec::{Check, Fault, earlier};
+use codec::Fault;
 use header::editions::lacks_standard_version;
 use header::layout::{FAD, FILE, MESSAGE_NUMBER, MESSAGE_SUBTYPE, STANDARD_VERSION, UMF};
 use leaves::numbers::{check_optional, check_word};
 use record_octets::{in_format, in_identity, in_optional_identity, in_optional_number};
 
 // G4.
-pub fn check_identity(x: &[u8]) -> Check
+pub fn check_identity(x: &[u8]) -> Result<(), Fault>
     requires { length x.now ≡ size_of_identity }
     ensures { check_no result ≡ identity.check (identity_in x.now) }
 {
-    let fad = check_word(FAD, Fault::Code, &x[in_identity::FAD..in_identity::NUMBER]);
-    let number = check_word(
+    check_word(FAD, Fault::Code, &x[in_identity::FAD..in_identity::NUMBER])?;
+    check_word(
         MESSAGE_NUMBER,
         Fault::Code,
         &x[in_identity::NUMBER..in_identity::SUBTYPE],
-    );
-    let subtype = check_optional(MESSAGE_SUBTYPE, &x[in_identity::SUBTYPE..in_identity::END]);
-    let rest = earlier(number, subtype);
-    earlier(fad, rest)
+    )?;
+    check_optional(MESSAGE_SUBTYPE, &x[in_identity::SUBTYPE..in_identity::END])
 }
 
-pub fn check_optional_identity(x: &[u8]) -> Check
+pub fn check_optional_identity(x: &[u8]) -> Result<(), Fault>
     requires { length x.now ≡ size_of_optional_identity }
     ensures { check_no result ≡ optional_identity.check (optional_identity_in x.now) }
 {
@@ -36,11 +34,11 @@ pub fn check_optional_identity(x: &[u8]) -> Check
     if present {
         return check_identity(&x[in_optional_identity::IDENTITY..in_optional_identity::END]);
     }
-    Check::Fine
+    Ok(())
 }
 
 // The message standard version; where the version lacks it, a record that has it is refused.
-fn check_standard_version(version: u32, x: &[u8]) -> Check
+fn check_standard_version(version: u32, x: &[u8]) -> Result<(), Fault>
     requires { length x.now ≡ size_of_optional_number }
     ensures { check_no result ≡ (standard_version version).check (optional_number_in x.now) }
 {
@@ -48,22 +46,19 @@ fn check_standard_version(version: u32, x: &[u8]) -> Check
     if lacking {
         let present = load_flag(&x[in_optional_number::PRESENT..in_optional_number::VALUE]);
         if present {
-            return Check::Bad(Fault::Code);
+            return Err(Fault::Code);
         }
-        return Check::Fine;
+        return Ok(());
     }
     check_optional(STANDARD_VERSION, x)
 }
 
-pub fn check_format(version: u32, x: &[u8]) -> Check
+pub fn check_format(version: u32, x: &[u8]) -> Result<(), Fault>
     requires { length x.now ≡ size_of_format }
     ensures { check_no result ≡ (format version).check (format_in x.now) }
 {
-    let umf = check_word(UMF, Fault::Code, &x[in_format::UMF..in_format::VERSION]);
-    let standard = check_standard_version(version, &x[in_format::VERSION..in_format::IDENTITY]);
-    let identity = check_optional_identity(&x[in_format::IDENTITY..in_format::FILE]);
-    let file = check_optional_text(FILE, &x[in_format::FILE..in_format::END]);
-    let rest = earlier(identity, file);
-    let rest = earlier(standard, rest);
-    earlier(umf, rest)
+    check_word(UMF, Fault::Code, &x[in_format::UMF..in_format::VERSION])?;
+    check_standard_version(version, &x[in_format::VERSION..in_format::IDENTITY])?;
+    check_optional_identity(&x[in_format::IDENTITY..in_format::FILE])?;
+    check_optional_text(FILE, &x[in_format::FILE..in_format::END])
 }

@@ -6,14 +6,14 @@ ghost use Rattle.record_octets.specs.Record.{size_of_optional_address, optional_
 
 use crate::address::{check_address, check_addresses};
 use cells::load_flag;
-use codec::{Check, Fault, earlier};
+use codec::Fault;
 use header::layout::{COMPRESSION, VERSION};
 use leaves::addressees::room_behind;
 use leaves::numbers::{check_optional, check_word};
 use record_octets::{in_front, in_optional_address, in_optional_addresses};
 
 // G1.
-pub fn check_originator(x: &[u8]) -> Check
+pub fn check_originator(x: &[u8]) -> Result<(), Fault>
     requires { length x.now ≡ size_of_optional_address }
     ensures { check_no result ≡ originator.check (optional_address_in x.now) }
 {
@@ -21,11 +21,11 @@ pub fn check_originator(x: &[u8]) -> Check
     if present {
         return check_address(&x[in_optional_address::ADDRESS..in_optional_address::END]);
     }
-    Check::Fine
+    Ok(())
 }
 
 // G2.
-pub fn check_recipients(x: &[u8]) -> Check
+pub fn check_recipients(x: &[u8]) -> Result<(), Fault>
     requires { length x.now ≡ size_of_optional_addresses }
     ensures { check_no result ≡ recipients.check (optional_addresses_in x.now) }
 {
@@ -36,44 +36,40 @@ pub fn check_recipients(x: &[u8]) -> Check
             &x[in_optional_addresses::ADDRESSES..in_optional_addresses::END],
         );
     }
-    Check::Fine
+    Ok(())
 }
 
 // G3, with room for so many: present without room is one too many.
-pub fn check_information(room: usize, x: &[u8]) -> Check
+pub fn check_information(room: usize, x: &[u8]) -> Result<(), Fault>
     requires { (room ≤ 16) × (length x.now ≡ size_of_optional_addresses) }
     ensures { check_no result ≡ (information room).check (optional_addresses_in x.now) }
 {
     let present = load_flag(&x[in_optional_addresses::PRESENT..in_optional_addresses::ADDRESSES]);
     if present {
         if room == 0 {
-            return Check::Bad(Fault::Count);
+            return Err(Fault::Count);
         }
         return check_addresses(
             room - 1,
             &x[in_optional_addresses::ADDRESSES..in_optional_addresses::END],
         );
     }
-    Check::Fine
+    Ok(())
 }
 
 // Every field up to the end of G3.
-pub fn check_front(x: &[u8]) -> Check
+pub fn check_front(x: &[u8]) -> Result<(), Fault>
     requires { length x.now ≡ size_of_front }
     ensures { check_no result ≡ front.check (front_in x.now) }
 {
-    let version = check_word(
+    check_word(
         VERSION,
         Fault::Version,
         &x[in_front::VERSION..in_front::COMPRESSION],
-    );
-    let compression = check_optional(COMPRESSION, &x[in_front::COMPRESSION..in_front::ORIGINATOR]);
-    let originator = check_originator(&x[in_front::ORIGINATOR..in_front::RECIPIENTS]);
-    let recipients = check_recipients(&x[in_front::RECIPIENTS..in_front::INFORMATION]);
+    )?;
+    check_optional(COMPRESSION, &x[in_front::COMPRESSION..in_front::ORIGINATOR])?;
+    check_originator(&x[in_front::ORIGINATOR..in_front::RECIPIENTS])?;
+    check_recipients(&x[in_front::RECIPIENTS..in_front::INFORMATION])?;
     let room = room_behind(&x[in_front::RECIPIENTS..in_front::INFORMATION]);
-    let information = check_information(room, &x[in_front::INFORMATION..in_front::END]);
-    let middle = earlier(compression, originator);
-    let origin = earlier(version, middle);
-    let addressed = earlier(recipients, information);
-    earlier(origin, addressed)
+    check_information(room, &x[in_front::INFORMATION..in_front::END])
 }

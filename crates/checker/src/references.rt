@@ -7,42 +7,41 @@ ghost use Rattle.record_octets.specs.Record.{size_of_reference, reference_in, si
 use crate::address::check_address;
 use crate::dtg::check_stamp;
 use cells::{entry, load_flag, load_word};
-use codec::{Check, Fault, earlier};
+use codec::Fault;
 use record_octets::{in_optional_references, in_reference, in_references};
 
-pub fn check_reference(x: &[u8]) -> Check
+pub fn check_reference(x: &[u8]) -> Result<(), Fault>
     requires { length x.now ≡ size_of_reference }
     ensures { check_no result ≡ reference.check (reference_in x.now) }
 {
-    let address = check_address(&x[in_reference::ADDRESS..in_reference::STAMP]);
-    let stamp = check_stamp(&x[in_reference::STAMP..in_reference::END]);
-    earlier(address, stamp)
+    check_address(&x[in_reference::ADDRESS..in_reference::STAMP])?;
+    check_stamp(&x[in_reference::STAMP..in_reference::END])
 }
 
 // The entries of a list of 1 to 4 references: their count, then the references.
-fn check_entries(list: &[u8], held: u32) -> Check
+fn check_entries(list: &[u8], held: u32) -> Result<(), Fault>
     requires { length list.now ≡ size_of_references_list }
     ensures { check_no result ≡ references.check (references_of list.now held) }
 {
     let count = held as usize;
     if 4 < count {
-        return Check::Bad(Fault::Count);
+        return Err(Fault::Count);
     }
     if count == 0 {
-        return Check::Bad(Fault::Count);
+        return Err(Fault::Count);
     }
     let mut i: usize = 0;
     while i < count {
         let c = check_reference(entry(list, i, in_references::ENTRY));
-        let Check::Fine = c else {
+        let Ok(()) = c else {
             return c;
         };
         i += 1;
     }
-    Check::Fine
+    Ok(())
 }
 
-pub fn check_references(x: &[u8]) -> Check
+pub fn check_references(x: &[u8]) -> Result<(), Fault>
     requires { length x.now ≡ size_of_references }
     ensures { check_no result ≡ references.check (references_in x.now) }
 {
@@ -51,7 +50,7 @@ pub fn check_references(x: &[u8]) -> Check
 }
 
 // G9.
-pub fn check_optional_references(x: &[u8]) -> Check
+pub fn check_optional_references(x: &[u8]) -> Result<(), Fault>
     requires { length x.now ≡ size_of_optional_references }
     ensures { check_no result ≡ optional_references.check (optional_references_in x.now) }
 {
@@ -63,5 +62,5 @@ pub fn check_optional_references(x: &[u8]) -> Check
             &x[in_optional_references::REFERENCES..in_optional_references::END],
         );
     }
-    Check::Fine
+    Ok(())
 }

@@ -6,11 +6,11 @@ ghost use Rattle.record_octets.specs.Record.{size_of_optional_dtg, optional_dtg_
 
 use crate::dtg::{check_dtg, check_stamp};
 use cells::load_flag;
-use codec::{Check, earlier};
+use codec::Fault;
 use record_octets::{in_optional_dtg, in_optional_stamp, in_times};
 
 // G5.
-pub fn check_optional_stamp(x: &[u8]) -> Check
+pub fn check_optional_stamp(x: &[u8]) -> Result<(), Fault>
     requires { length x.now ≡ size_of_optional_stamp }
     ensures { check_no result ≡ optional_stamp.check (optional_stamp_in x.now) }
 {
@@ -18,11 +18,11 @@ pub fn check_optional_stamp(x: &[u8]) -> Check
     if present {
         return check_stamp(&x[in_optional_stamp::STAMP..in_optional_stamp::END]);
     }
-    Check::Fine
+    Ok(())
 }
 
 // G6.
-pub fn check_optional_dtg(x: &[u8]) -> Check
+pub fn check_optional_dtg(x: &[u8]) -> Result<(), Fault>
     requires { length x.now ≡ size_of_optional_dtg }
     ensures { check_no result ≡ optional_dtg.check (optional_dtg_in x.now) }
 {
@@ -30,15 +30,14 @@ pub fn check_optional_dtg(x: &[u8]) -> Check
     if present {
         return check_dtg(&x[in_optional_dtg::DTG..in_optional_dtg::END]);
     }
-    Check::Fine
+    Ok(())
 }
 
 // G5 and G6; every value of G7 is legal.
-pub fn check_times(x: &[u8]) -> Check
+pub fn check_times(x: &[u8]) -> Result<(), Fault>
     requires { length x.now ≡ size_of_times }
     ensures { check_no result ≡ times.check (times_in x.now) }
 {
-    let origin = check_optional_stamp(&x[in_times::ORIGIN..in_times::PERISH]);
-    let perish = check_optional_dtg(&x[in_times::PERISH..in_times::REQUESTS]);
-    earlier(origin, perish)
+    check_optional_stamp(&x[in_times::ORIGIN..in_times::PERISH])?;
+    check_optional_dtg(&x[in_times::PERISH..in_times::REQUESTS])
 }

@@ -11,10 +11,12 @@ use Rattle.bits.specs.declared.BitPlace.{BitPlace}
 use Rattle.bits.proofs.Splices.{splice-splice, splice-nil}
 use Rattle.codec.specs.Answer.{got, refused, next, pick}
 use Rattle.codec.specs.Codec.{Codec, first, same, must, number, nothing, ◌then_by◌, viewed, present, unless, tested, flag, ◌closed_by◌}
-use Rattle.codec.specs.Refusals.{fault_no, Step, Reading, answer, answer_of}
+use Rattle.codec.specs.Refusals.{fault_no, Step, Reading, answer, answer_of, check_no}
+use Rattle.codec.proofs.Told.{fault-positive, first-refusal}
+use Rattle.codec.specs.declared.Fault.{Fault}
 use Rattle.codec.specs.Writes.{Writes}
 use Rattle.codec.specs.declared.FieldFault.{FieldFault}
-use Rattle.std.specs.Prelude.{Result, Ok, Err, IsErrAnd}
+use Rattle.std.specs.Prelude.{Result, Ok, Err, IsErrAnd, ⊤}
 use Rattle.std.proofs.lemmas.Result.{err_from_is_err_and}
 
 -- the reading of c at p stops, and e says where and why
@@ -208,11 +210,15 @@ number-writes w lo hi f least most g v s t p q e = record { bits = e.bits; ends 
 
 pub ruleset writing = (then-writes, shape-writes, present-writes, absent-writes, tested-writes, tested-then-writes)
 
--- checks: r is the first of two, where a `?` hands on the refusal of the one before
+-- checks: past a field that has no fault, and where a `?` hands on the fault of one
 module _ {A B : Type 0} (c : Codec A) (d : A → Codec B) where
-  pub then-checks : (xy : A × B) (r f g : ℕ) → r ≡ first f g → f ≡ c.check xy.0 → g ≡ (d xy.0).check xy.1 → r ≡ (c then_by d).check xy
-  unfolding ◌then_by◌
-  then-checks xy r f g e h k = e ∙ ap₂ first h k
+  pub then-checks : (xy : A × B) (r : ℕ) → check_no {A = ⊤} (Ok tt) ≡ c.check xy.0 → r ≡ (d xy.0).check xy.1 → r ≡ (c then_by d).check xy
+  unfolding ◌then_by◌ check_no first
+  then-checks xy r h k = rw (← h) k
+
+  pub here-checks : (xy : A × B) (f : Fault) → check_no {A = ⊤} (Err f) ≡ c.check xy.0 → check_no {A = ⊤} (Err f) ≡ (c then_by d).check xy
+  unfolding ◌then_by◌ check_no
+  here-checks xy f h = rw (← h) (first-refusal (fault_no f) ((d xy.0).check xy.1) (fault-positive f))
 
 -- a flag has no fault of its own
 pub flag-checks : {B : Type 0} (d : Bool → Codec B) (xy : Bool × B) (r : ℕ) → r ≡ (d xy.0).check xy.1 → r ≡ (flag then_by d).check xy
@@ -233,7 +239,7 @@ closed-checks c fault y r e = e ∙ go (c.check y)
     go zero = refl
     go (suc n) = refl
 
-pub ruleset checking = (then-checks, flag-checks, shape-checks, closed-checks, present-check, absent-check)
+pub ruleset checking = (then-checks, here-checks, flag-checks, shape-checks, closed-checks, present-check, absent-check)
 
 -- a field that an edition may lack: where it has it, and where it lacks it
 module _ {A : Type 0} (lacking : Bool) (x : A) (there : A → Bool) (fault : ℕ) (c : Codec A) where

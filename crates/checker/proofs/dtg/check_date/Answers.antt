@@ -13,6 +13,14 @@ unfolding date viewed ◌then_by◌
 checked x year month years months days rest r y m a b d f e =
     e ∙ ap₂ first (a ∙ ap (λ (v : ℕ). (number 7 0 99 3).check v) y) (f ∙ ap₂ first (b ∙ ap (λ (v : ℕ). (number 4 1 12 3).check v) m) (d ∙ ap₂ (λ (v w : ℕ). (day_in v w).check x.day) y m))
 
+pub returns-in_err-check_number : goal.returns-in_err-check_number
+unfolding date_in
+returns-in_err-check_number c = rw (handed _ c.in_err-check_number.field-0.0 c.from_residual.ensures.1) (search (checking, c.in_err-check_number.ensures) depth 14 fits 6000)
+
+pub returns-in_err-check_number-2 : goal.returns-in_err-check_number-2
+unfolding date_in
+returns-in_err-check_number-2 c = rw (handed _ c.in_err-check_number-2.field-0.0 c.from_residual-in_err-check_number-2.ensures.1) (search (checking, c.in_ok-check_number.ensures, c.in_err-check_number-2.ensures) depth 14 fits 6000)
+
 pub returns : goal.returns
 unfolding date_in
-returns c = checked (date_in c.args.x.now) _ _ _ _ _ _ _ c.load_word-year.ensures c.load_word-month.ensures c.check_number-years.ensures c.check_number-months.ensures c.check_day-days.ensures c.earlier-rest.ensures c.earlier.ensures
+returns c = search (checking, c.in_ok-check_number.ensures, c.in_ok-check_number-2.ensures) depth 14 fits 6000
