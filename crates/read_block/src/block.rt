@@ -1,5 +1,5 @@
 // A message block, and the list of them.
-ghost use Rattle.std.specs.Prelude.{◌≡◌, ◌≤◌, ◌++◌, length};
+ghost use Rattle.std.specs.Prelude.{◌≡◌, ◌<◌, ◌≤◌, ◌++◌, length};
 ghost use Rattle.bits.specs.Datagrams.{bits_in};
 ghost use Rattle.cells.specs.Cells.{zeros, many_octets, Each};
 ghost use Rattle.codec.specs.Codec.{◌&◌};
@@ -55,7 +55,7 @@ fn read_entry(s: Datagram, at: BitPlace, version: u32, left: usize, x: &mut [u8]
 // The entries of a list of 1 to 16; how many there are.
 fn read_entries(s: Datagram, at: BitPlace, version: u32, list: &mut [u8]) -> Reading<u32>
     requires { list.old ≡ zeros size_of_blocks_list }
-    ensures { IntoTelling (blocks version) (λ v. v.count) (λ v. many_octets block_octets v.list) (λ v. (length v.list ≡ 16) × Each TypedBlock v.list) (bits_in s.entry) at.0 result list.new }
+    ensures { IntoTelling (blocks version) (λ v. v.count) (λ v. many_octets block_octets v.list) (λ v. (v.count < 4294967296) × (length v.list ≡ 16) × Each TypedBlock v.list) (bits_in s.entry) at.0 result list.new }
 {
     let mut n: usize = 0;
     let mut place = at;

@@ -1,5 +1,5 @@
 // A block's G9: the messages referred to.
-ghost use Rattle.std.specs.Prelude.{◌≡◌, ◌≤◌, length};
+ghost use Rattle.std.specs.Prelude.{◌≡◌, ◌<◌, ◌≤◌, length};
 ghost use Rattle.bits.specs.Datagrams.{bits_in};
 ghost use Rattle.cells.specs.Cells.{zeros, many_octets, Each};
 ghost use Rattle.codec.specs.Codec.{◌&◌};
@@ -38,7 +38,7 @@ fn read_entry(s: Datagram, at: BitPlace, left: usize, x: &mut [u8]) -> Reading<b
 // The entries of a list of 1 to 4; how many there are.
 fn read_entries(s: Datagram, at: BitPlace, list: &mut [u8]) -> Reading<u32>
     requires { list.old ≡ zeros size_of_references_list }
-    ensures { IntoTelling references (λ v. v.count) (λ v. many_octets reference_octets v.list) (λ v. (length v.list ≡ 4) × Each TypedReference v.list) (bits_in s.entry) at.0 result list.new }
+    ensures { IntoTelling references (λ v. v.count) (λ v. many_octets reference_octets v.list) (λ v. (v.count < 4294967296) × (length v.list ≡ 4) × Each TypedReference v.list) (bits_in s.entry) at.0 result list.new }
 {
     let mut n: usize = 0;
     let mut place = at;

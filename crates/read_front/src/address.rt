@@ -66,7 +66,7 @@ fn read_entry(s: Datagram, at: BitPlace, left: usize, x: &mut [u8]) -> Reading<b
 // The entries of a list of 1 to left + 1; how many there are.
 fn read_entries(s: Datagram, at: BitPlace, left: usize, list: &mut [u8]) -> Reading<u32>
     requires { (list.old ≡ zeros size_of_addresses_list) × (left < 16) }
-    ensures { IntoTelling (addresses left) (λ v. v.count) (λ v. many_octets address_octets v.list) (λ v. (length v.list ≡ 16) × Each TypedAddress v.list) (bits_in s.entry) at.0 result list.new }
+    ensures { IntoTelling (addresses left) (λ v. v.count) (λ v. many_octets address_octets v.list) (λ v. (v.count < 4294967296) × (length v.list ≡ 16) × Each TypedAddress v.list) (bits_in s.entry) at.0 result list.new }
 {
     let mut n: usize = 0;
     let mut place = at;

@@ -2,7 +2,7 @@
 use Prim.Native.Nat.{◌-◌}
 use mathlib.Core.Path.{◌≡◌, refl}
 use lib.Dec.{lit<}
-use Rattle.bits.specs.Bits.{bits_of}
+use Rattle.bits.specs.Datagrams.{bits_in}
 use Rattle.cells.specs.Cells.{zeros, word_octets, flag_octets, mark_octets, many_octets}
 use Rattle.header.specs.Table.{block}
 use Rattle.header.specs.Zero.{no_number, no_optional_text, no_address, no_dtg, no_stamp, no_reference, no_references, no_identity, no_format, no_handling, no_requests, no_times, no_response, no_block}
@@ -20,8 +20,8 @@ pub nothing : block_octets no_block ≡ zeros 852
 unfolding no_number no_optional_text no_address no_dtg no_stamp no_reference no_references no_identity no_format no_handling no_requests no_times no_response no_block word_octets flag_octets mark_octets optional_number_octets text_octets optional_text_octets address_octets date_octets time_octets dtg_octets stamp_octets reference_octets many_octets identity_octets optional_identity_octets format_octets codes_octets handling_octets requests_octets optional_requests_octets optional_stamp_octets optional_dtg_octets times_octets compliance_octets response_octets optional_response_octets references_octets optional_references_octets block_octets
 nothing = refl
 
-abbrev pub invariant-loop-next : goal.invariant-loop-next
-invariant-loop-next l = Putting no_block (block l.version) block_octets TypedBlock 852 block-long nothing fine (bits_of l.s) 16 15 l.initial.place.0 l.list l.n l.place.0
+abbrev pub invariant-loop-more : goal.invariant-loop-more
+invariant-loop-more l = Putting no_block (block l.version) block_octets TypedBlock 852 block-long nothing fine (bits_in l.s) 16 15 l.initial.place.0 l.list l.n l.place.0
 
-abbrev pub decreases-loop-next : goal.decreases-loop-next
-decreases-loop-next l = 17 - l.n
+abbrev pub decreases-loop-more : goal.decreases-loop-more
+decreases-loop-more l = 17 - l.n

@@ -1,25 +1,25 @@
 -- `read_block::block::read_head` meets its contract. Assumes nothing.
 use native.Mathlib.Omega.{arith}
-use Rattle.codec.proofs.Compose.{here-stop, group-then-stop, group-stop}
+use Rattle.codec.proofs.Compose.{stopping}
 use Rattle.into.proofs.Ready.{ready-none, ready-part, ready-part-long, ready-next, ready-all}
-use Rattle.into.proofs.Telling.{tells-here, tells-group-then, into-stop, into-tell}
+use Rattle.into.proofs.Telling.{telling, into-stop, into-tell}
 use Rattle.header.specs.Zero.{no_format, no_handling, no_times}
 use Rattle.read_block.proofs.block.read_head.Goals as goal
 
-pub read_format-step-requires : goal.read_format-step-requires
-read_format-step-requires c = (c.requires.0, ready-part 104 (ready-none 268 c.args.x.now c.requires.1) (omega arith), ready-part-long 104 (ready-none 268 c.args.x.now c.requires.1) (omega arith))
+pub returns-in_err-at : goal.returns-in_err-at
+returns-in_err-at c = into-stop (no_format, (no_handling, no_times)) _ c.in_err-at.field-0.0 c.from_residual.ensures.1 (search (stopping, c.in_err-at.ensures.told) depth 14 fits 6000)
 
-pub returns-in_default : goal.returns-in_default
-returns-in_default c = into-stop (no_format, (no_handling, no_times)) _ (search (here-stop, group-then-stop, group-stop, c.in_default.in_default-own.keys2, c.read_format-step.ensures.told) depth 14)
+pub returns-in_err-at-2 : goal.returns-in_err-at-2
+returns-in_err-at-2 c = into-stop (no_format, (no_handling, no_times)) _ c.in_err-at-2.field-0.0 c.from_residual-in_err-at-2.ensures.1 (search (stopping, c.in_ok-at.ensures.told, c.in_err-at-2.ensures.told) depth 14 fits 6000)
 
-pub read_handling-step-requires : goal.read_handling-step-requires
-read_handling-step-requires c = (c.requires.0, ready-part 96 (ready-next 104 (ready-none 268 c.args.x.now c.requires.1) (omega arith) _ _ c.x-1.given.0 (c.read_format-step.ensures.held _ c.in-Next.is).0) (omega arith), ready-part-long 96 (ready-next 104 (ready-none 268 c.args.x.now c.requires.1) (omega arith) _ _ c.x-1.given.0 (c.read_format-step.ensures.held _ c.in-Next.is).0) (omega arith))
+pub read_format-requires : goal.read_format-requires
+read_format-requires c = (ready-part 104 (ready-none 268 c.args.x.now c.requires.0) (omega arith), ready-part-long 104 (ready-none 268 c.args.x.now c.requires.0) (omega arith))
 
-pub returns-in_default-step : goal.returns-in_default-step
-returns-in_default-step c = into-stop (no_format, (no_handling, no_times)) _ (search (here-stop, group-then-stop, group-stop, c.in_default-step.in_default-step-own.keys2, c.read_handling-step.ensures.told, c.in-Next.is, c.read_format-step.ensures.told) depth 14)
+pub read_handling-requires : goal.read_handling-requires
+read_handling-requires c = (ready-part 96 (ready-next 104 (ready-none 268 c.args.x.now c.requires.0) (omega arith) _ _ c.x-1.given.0 c.in_ok-at.ensures.held.0) (omega arith), ready-part-long 96 (ready-next 104 (ready-none 268 c.args.x.now c.requires.0) (omega arith) _ _ c.x-1.given.0 c.in_ok-at.ensures.held.0) (omega arith))
 
 pub read_times-requires : goal.read_times-requires
-read_times-requires c = (c.requires.0, ready-part 68 (ready-next 96 (ready-next 104 (ready-none 268 c.args.x.now c.requires.1) (omega arith) _ _ c.x-1.given.0 (c.read_format-step.ensures.held _ c.in-Next.is).0) (omega arith) _ _ c.x-2-1.given.0 (c.read_handling-step.ensures.held _ c.in-Next-step.is).0) (omega arith), ready-part-long 68 (ready-next 96 (ready-next 104 (ready-none 268 c.args.x.now c.requires.1) (omega arith) _ _ c.x-1.given.0 (c.read_format-step.ensures.held _ c.in-Next.is).0) (omega arith) _ _ c.x-2-1.given.0 (c.read_handling-step.ensures.held _ c.in-Next-step.is).0) (omega arith))
+read_times-requires c = (ready-part 68 (ready-next 96 (ready-next 104 (ready-none 268 c.args.x.now c.requires.0) (omega arith) _ _ c.x-1.given.0 c.in_ok-at.ensures.held.0) (omega arith) _ _ c.x-2-1.given.0 c.in_ok-at-2.ensures.held.0) (omega arith), ready-part-long 68 (ready-next 96 (ready-next 104 (ready-none 268 c.args.x.now c.requires.0) (omega arith) _ _ c.x-1.given.0 c.in_ok-at.ensures.held.0) (omega arith) _ _ c.x-2-1.given.0 c.in_ok-at-2.ensures.held.0) (omega arith))
 
 pub returns : goal.returns
-returns c = into-tell (c.read_format-step.ensures.value, (c.read_handling-step.ensures.value, c.read_times.ensures.value)) _ (search (tells-here, tells-group-then, c.read_times.ensures.told, c.in-Next-step.is, c.read_handling-step.ensures.told, c.in-Next.is, c.read_format-step.ensures.told) depth 14) (λ q e. (ready-all (ready-next 68 (ready-next 96 (ready-next 104 (ready-none 268 c.args.x.now c.requires.1) (omega arith) _ _ c.x-1.given.0 (c.read_format-step.ensures.held _ c.in-Next.is).0) (omega arith) _ _ c.x-2-1.given.0 (c.read_handling-step.ensures.held _ c.in-Next-step.is).0) (omega arith) _ _ c.x-3-1.given.0 (c.read_times.ensures.held q e).0), ((c.read_format-step.ensures.held _ c.in-Next.is).1, (c.read_handling-step.ensures.held _ c.in-Next-step.is).1, (c.read_times.ensures.held q e).1)))
+returns c = into-tell (c.in_ok-at.ensures.value, (c.in_ok-at-2.ensures.value, c.read_times.ensures.value)) _ (search (tells-here, tells-group-then, c.read_times.ensures.told, c.in_ok-at-2.ensures.told, c.in_ok-at.ensures.told) depth 14) c.read_times.ensures.held (λ h. (ready-all (ready-next 68 (ready-next 96 (ready-next 104 (ready-none 268 c.args.x.now c.requires.0) (omega arith) _ _ c.x-1.given.0 c.in_ok-at.ensures.held.0) (omega arith) _ _ c.x-2-1.given.0 c.in_ok-at-2.ensures.held.0) (omega arith) _ _ c.x-3-1.given.0 h.0), (c.in_ok-at.ensures.held.1, c.in_ok-at-2.ensures.held.1, h.1)))

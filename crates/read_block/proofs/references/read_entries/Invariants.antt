@@ -2,7 +2,7 @@
 use Prim.Native.Nat.{◌-◌}
 use mathlib.Core.Path.{◌≡◌, refl}
 use lib.Dec.{lit<}
-use Rattle.bits.specs.Bits.{bits_of}
+use Rattle.bits.specs.Datagrams.{bits_in}
 use Rattle.cells.specs.Cells.{zeros, word_octets, flag_octets, mark_octets}
 use Rattle.header.specs.Table.{reference}
 use Rattle.header.specs.Zero.{no_number, no_optional_text, no_address, no_dtg, no_stamp, no_reference}
@@ -20,8 +20,8 @@ pub nothing : reference_octets no_reference ≡ zeros 112
 unfolding no_number no_optional_text no_address no_dtg no_stamp no_reference word_octets flag_octets mark_octets optional_number_octets text_octets optional_text_octets address_octets date_octets time_octets dtg_octets stamp_octets reference_octets
 nothing = refl
 
-abbrev pub invariant-loop-next : goal.invariant-loop-next
-invariant-loop-next l = Putting no_reference reference reference_octets TypedReference 112 reference-long nothing fine (bits_of l.s) 4 3 l.initial.place.0 l.list l.n l.place.0
+abbrev pub invariant-loop-more : goal.invariant-loop-more
+invariant-loop-more l = Putting no_reference reference reference_octets TypedReference 112 reference-long nothing fine (bits_in l.s) 4 3 l.initial.place.0 l.list l.n l.place.0
 
-abbrev pub decreases-loop-next : goal.decreases-loop-next
-decreases-loop-next l = 5 - l.n
+abbrev pub decreases-loop-more : goal.decreases-loop-more
+decreases-loop-more l = 5 - l.n

@@ -4,7 +4,7 @@ use mathlib.Core.Path.{◌≡◌, refl, sym, ap, ◌∙◌}
 use mathlib.Core.Bool.{true, false}
 use native.Mathlib.Omega.{arith}
 use lib.ListN.{length, set}
-use Rattle.bits.specs.Bits.{bits_of}
+use Rattle.bits.specs.Datagrams.{bits_in}
 use Rattle.codec.specs.Codec.{◌&◌}
 use Rattle.codec.specs.Lists.{recurs}
 use Rattle.codec.proofs.Compose.{Gets, ended, shape-got, shape-stop, group-got, group-stop}
@@ -12,7 +12,7 @@ use Rattle.header.specs.Table.{address, addresses}
 use Rattle.header.proofs.Lawful.{address-lawful}
 use Rattle.header.specs.Zero.{no_address}
 use Rattle.into.proofs.Ready.{zeros-long}
-use Rattle.into.proofs.Telling.{into-stop, into-got}
+use Rattle.into.proofs.Telling.{telling-stop, telling-got}
 use Rattle.into.proofs.Putting.{putting-none, putting-long, putting-room, putting-part, putting-part-long, putting-more, putting-end, putting-octets, putting-typed, putting-stop}
 use Rattle.record_octets.specs.Record.{address_octets}
 use Rattle.record_octets.specs.Typed.{TypedAddress}
@@ -20,60 +20,55 @@ use Rattle.record_octets.proofs.Back.{address-long}
 use Rattle.read_front.proofs.address.read_entries.Invariants.{fine, nothing}
 use Rattle.read_front.proofs.address.read_entries.Goals as goal
 
-pub loop-next-init : goal.loop-next-init
-loop-next-init c = (c.requires.2, putting-none no_address address address_octets TypedAddress 80 address-long nothing fine _ 16 _ _ _ c.requires.1)
+pub loop-more-init : goal.loop-more-init
+loop-more-init c = (c.requires.1, putting-none no_address address address_octets TypedAddress 80 address-long nothing fine _ 16 _ _ _ c.requires.0)
 
 pub overflow_mul-to : goal.overflow_mul-to
-overflow_mul-to c = omega (arith, c.loop-next.invariant.1.listing.small, c.loop-next.invariant.0)
+overflow_mul-to c = omega (arith, c.loop-more.invariant.1.listing.small, c.loop-more.invariant.0)
 
 pub overflow_sub-left : goal.overflow_sub-left
-overflow_sub-left c = omega (arith, c.loop-next.invariant.1.listing.small, c.loop-next.invariant.0)
+overflow_sub-left c = omega (arith, c.loop-more.invariant.1.listing.small, c.loop-more.invariant.0)
 
 pub overflow_add-to : goal.overflow_add-to
-overflow_add-to c = omega (arith, c.loop-next.invariant.1.listing.small, c.loop-next.invariant.0)
+overflow_add-to c = omega (arith, c.loop-more.invariant.1.listing.small, c.loop-more.invariant.0)
 
 pub slice_bounds-read_entry-end : goal.slice_bounds-read_entry-end
-slice_bounds-read_entry-end c = putting-room no_address address address_octets TypedAddress 80 address-long nothing fine (bits_of c.args.s.now) 16 c.args.left _ _ _ _ c.loop-next.invariant.1 c.loop-next.invariant.0
+slice_bounds-read_entry-end c = putting-room no_address address address_octets TypedAddress 80 address-long nothing fine (bits_in c.args.s) 16 c.args.left _ _ _ _ c.loop-more.invariant.1 c.loop-more.invariant.0
 
-pub read_entry-e-requires : goal.read_entry-e-requires
-read_entry-e-requires c = (c.requires.0, putting-part no_address address address_octets TypedAddress 80 address-long nothing fine (bits_of c.args.s.now) 16 c.args.left _ _ _ _ c.loop-next.invariant.1 c.loop-next.invariant.0, putting-part-long no_address address address_octets TypedAddress 80 address-long nothing fine (bits_of c.args.s.now) 16 c.args.left _ _ _ _ c.loop-next.invariant.1 c.loop-next.invariant.0)
+pub read_entry-requires : goal.read_entry-requires
+read_entry-requires c = (putting-part no_address address address_octets TypedAddress 80 address-long nothing fine (bits_in c.args.s) 16 c.args.left _ _ _ _ c.loop-more.invariant.1 c.loop-more.invariant.0, putting-part-long no_address address address_octets TypedAddress 80 address-long nothing fine (bits_in c.args.s) 16 c.args.left _ _ _ _ c.loop-more.invariant.1 c.loop-more.invariant.0)
 
-pub shape_of-list-in_default : goal.shape_of-list-in_default
-shape_of-list-in_default c = c.list-1.given.1 ∙ putting-long no_address address address_octets TypedAddress 80 address-long nothing fine (bits_of c.args.s.now) 16 c.args.left _ _ _ _ c.loop-next.invariant.1 c.loop-next.invariant.0 ∙ sym (ap length c.requires.1 ∙ zeros-long 1280)
-
-pub returns-in_default : goal.returns-in_default
+pub returns-in_err-more : goal.returns-in_err-more
 unfolding addresses
-returns-in_default c = into-stop (record { list = c.loop-next.invariant.1.list; count = 0 }) _ (shape-stop _ _ _ _ _ _ _ _ _ (putting-stop no_address address address_octets TypedAddress 80 address-long nothing fine (bits_of c.args.s.now) 16 c.args.left _ _ _ _ c.loop-next.invariant.1 c.loop-next.invariant.0 _ _ _ (group-stop _ _ _ _ _ c.read_entry-e.ensures.told c.in_default.in_default-own.keys2)))
+returns-in_err-more c = telling-stop (record { list = c.loop-more.invariant.1.list; count = 0 }) _ c.in_err-more.field-0.0 c.from_residual.ensures.1 (shape-stop _ _ _ _ _ _ _ _ _ (putting-stop no_address address address_octets TypedAddress 80 address-long nothing fine (bits_in c.args.s) 16 c.args.left _ _ _ _ c.loop-more.invariant.1 c.loop-more.invariant.0 _ _ _ (group-stop _ _ _ _ _ c.in_err-more.ensures.told)))
 
 pub overflow_add-n : goal.overflow_add-n
-overflow_add-n c = omega (arith, c.loop-next.invariant.1.listing.small, c.loop-next.invariant.0)
+overflow_add-n c = omega (arith, c.loop-more.invariant.1.listing.small, c.loop-more.invariant.0)
 
 pub overflow_cast-result : goal.overflow_cast-result
-overflow_cast-result c = omega (arith, c.loop-next.invariant.1.listing.small, c.loop-next.invariant.0)
-
-pub shape_of-list-then-not-more : goal.shape_of-list-then-not-more
-shape_of-list-then-not-more c = c.list-1.given.1 ∙ putting-long no_address address address_octets TypedAddress 80 address-long nothing fine (bits_of c.args.s.now) 16 c.args.left _ _ _ _ c.loop-next.invariant.1 c.loop-next.invariant.0 ∙ sym (ap length c.requires.1 ∙ zeros-long 1280)
+overflow_cast-result c = omega (arith, c.loop-more.invariant.1.listing.small, c.loop-more.invariant.0)
 
 pub returns-then-not-more : goal.returns-then-not-more
 unfolding addresses
 returns-then-not-more c =
-    let v = c.read_entry-e.ensures.value in
-    let h = c.read_entry-e.ensures.held _ c.in-Next.is in
-    let g : Gets (recurs (c.args.left - c.loop-next.n) & address) (bits_of c.args.s.now) c.loop-next.place.0 (v.0, v.1) c.in-Next.next.0 = group-got _ _ _ _ _ _ c.read_entry-e.ensures.told c.in-Next.is in
-    let f : v.0 ≡ false = h.1.0 ∙ c.if-not-more.true in
-    let o = putting-octets no_address address address_octets TypedAddress 80 address-long nothing fine (bits_of c.args.s.now) 16 c.args.left _ _ _ _ c.loop-next.invariant.1 c.loop-next.invariant.0 address-lawful _ v.1 c.list-1.given.0 h.0 h.1.1 in
-    into-got (record { list = set c.loop-next.invariant.1.list c.loop-next.n v.1; count = c.loop-next.n + 1 }) _
-    (ended _ _ _ _ _ (shape-got _ _ _ _ _ _ _ _ _ _ (putting-end no_address address address_octets TypedAddress 80 address-long nothing fine (bits_of c.args.s.now) 16 c.args.left _ _ _ _ c.loop-next.invariant.1 c.loop-next.invariant.0 address-lawful _ v.1 c.list-1.given.0 h.0 h.1.1 _ _ _ (rw f at g)) refl))
-    o
-    (refl, (putting-typed no_address address address_octets TypedAddress 80 address-long nothing fine (bits_of c.args.s.now) 16 c.args.left _ _ _ _ c.loop-next.invariant.1 c.loop-next.invariant.0 address-lawful _ v.1 c.list-1.given.0 h.0 h.1.1).0, (putting-typed no_address address address_octets TypedAddress 80 address-long nothing fine (bits_of c.args.s.now) 16 c.args.left _ _ _ _ c.loop-next.invariant.1 c.loop-next.invariant.0 address-lawful _ v.1 c.list-1.given.0 h.0 h.1.1).1)
+    let v = c.in_ok-more.ensures.value in
+    let h = c.in_ok-more.ensures.held in
+    let g : Gets (recurs (c.args.left - c.loop-more.n) & address) (bits_in c.args.s) c.loop-more.place.0 (v.0, v.1) c.in_ok-more.next.0 = group-got _ _ _ _ _ c.in_ok-more.ensures.told in
+    let f : v.0 ≡ false = h.0 ∙ c.if-not-more.true in
+    let t = putting-typed no_address address address_octets TypedAddress 80 address-long nothing fine (bits_in c.args.s) 16 c.args.left _ _ _ _ c.loop-more.invariant.1 c.loop-more.invariant.0 address-lawful _ v.1 c.list-1.given.0 h.1 h.2 in
+    telling-got (record { list = set c.loop-more.invariant.1.list c.loop-more.n v.1; count = c.loop-more.n + 1 }) _ _
+    (ended _ _ _ _ _ (shape-got _ _ _ _ _ _ _ _ _ _ (putting-end no_address address address_octets TypedAddress 80 address-long nothing fine (bits_in c.args.s) 16 c.args.left _ _ _ _ c.loop-more.invariant.1 c.loop-more.invariant.0 address-lawful _ v.1 c.list-1.given.0 h.1 h.2 _ _ _ (rw f at g)) refl))
+    refl
+    (putting-octets no_address address address_octets TypedAddress 80 address-long nothing fine (bits_in c.args.s) 16 c.args.left _ _ _ _ c.loop-more.invariant.1 c.loop-more.invariant.0 address-lawful _ v.1 c.list-1.given.0 h.1 h.2)
+    (omega (arith, c.loop-more.invariant.1.listing.small, c.loop-more.invariant.0), t.0, t.1)
 
-pub loop-next-smaller : goal.loop-next-smaller
-loop-next-smaller c = omega (arith, c.loop-next.invariant.1.listing.small, c.loop-next.invariant.0)
+pub loop-more-smaller : goal.loop-more-smaller
+loop-more-smaller c = omega (arith, c.loop-more.invariant.1.listing.small, c.loop-more.invariant.0)
 
-pub loop-next-preserved : goal.loop-next-preserved
-loop-next-preserved c =
-    let v = c.read_entry-e.ensures.value in
-    let h = c.read_entry-e.ensures.held _ c.in-Next.is in
-    let g : Gets (recurs (c.args.left - c.loop-next.n) & address) (bits_of c.args.s.now) c.loop-next.place.0 (v.0, v.1) c.in-Next.next.0 = group-got _ _ _ _ _ _ c.read_entry-e.ensures.told c.in-Next.is in
-    let f : v.0 ≡ true = h.1.0 ∙ c.if-not-more.false in
-    (c.loop-next.invariant.0, putting-more no_address address address_octets TypedAddress 80 address-long nothing fine (bits_of c.args.s.now) 16 c.args.left _ _ _ _ c.loop-next.invariant.1 c.loop-next.invariant.0 address-lawful _ v.1 c.list-1.given.0 h.0 h.1.1 _ (rw f at g))
+pub loop-more-preserved : goal.loop-more-preserved
+loop-more-preserved c =
+    let v = c.in_ok-more.ensures.value in
+    let h = c.in_ok-more.ensures.held in
+    let g : Gets (recurs (c.args.left - c.loop-more.n) & address) (bits_in c.args.s) c.loop-more.place.0 (v.0, v.1) c.in_ok-more.next.0 = group-got _ _ _ _ _ c.in_ok-more.ensures.told in
+    let f : v.0 ≡ true = h.0 ∙ c.if-not-more.false in
+    (c.loop-more.invariant.0, putting-more no_address address address_octets TypedAddress 80 address-long nothing fine (bits_in c.args.s) 16 c.args.left _ _ _ _ c.loop-more.invariant.1 c.loop-more.invariant.0 address-lawful _ v.1 c.list-1.given.0 h.1 h.2 _ (rw f at g))

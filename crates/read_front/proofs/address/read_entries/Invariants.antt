@@ -2,7 +2,7 @@
 use Prim.Native.Nat.{◌-◌, ◌<◌}
 use mathlib.Core.Path.{◌≡◌, refl}
 use lib.Dec.{lit<}
-use Rattle.bits.specs.Bits.{bits_of}
+use Rattle.bits.specs.Datagrams.{bits_in}
 use Rattle.cells.specs.Cells.{zeros, word_octets, flag_octets, mark_octets}
 use Rattle.header.specs.Table.{address}
 use Rattle.header.specs.Zero.{no_number, no_optional_text, no_address}
@@ -20,8 +20,8 @@ pub nothing : address_octets no_address ≡ zeros 80
 unfolding no_number no_optional_text no_address word_octets flag_octets mark_octets optional_number_octets text_octets optional_text_octets address_octets
 nothing = refl
 
-abbrev pub invariant-loop-next : goal.invariant-loop-next
-invariant-loop-next l = (l.left < 16) × Putting no_address address address_octets TypedAddress 80 address-long nothing fine (bits_of l.s) 16 l.left l.initial.place.0 l.list l.n l.place.0
+abbrev pub invariant-loop-more : goal.invariant-loop-more
+invariant-loop-more l = (l.left < 16) × Putting no_address address address_octets TypedAddress 80 address-long nothing fine (bits_in l.s) 16 l.left l.initial.place.0 l.list l.n l.place.0
 
-abbrev pub decreases-loop-next : goal.decreases-loop-next
-decreases-loop-next l = 17 - l.n
+abbrev pub decreases-loop-more : goal.decreases-loop-more
+decreases-loop-more l = 17 - l.n

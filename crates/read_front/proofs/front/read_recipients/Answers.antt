@@ -3,26 +3,26 @@ use mathlib.Core.Path.{refl}
 use mathlib.Core.Bool.{false}
 use native.Mathlib.Omega.{arith}
 use lib.Dec.{lit<}
-use Rattle.codec.proofs.Compose.{getting, left_out, shape-stop, here-stop, flag-stop}
+use Rattle.codec.proofs.Compose.{getting, left_out, stopping}
 use Rattle.cells.specs.Cells.{word_octets, flag_octets, mark_octets, many_octets}
 use Rattle.into.proofs.Ready.{ready-none, ready-part, ready-part-long, ready-next, ready-all}
-use Rattle.into.proofs.Telling.{tells-here, tells-flag-then, tells-shape, tells-present, into-stop, into-tell, into-got}
+use Rattle.into.proofs.Telling.{telling, into-stop, into-tell, into-got}
 use Rattle.header.specs.Table.{recipients}
 use Rattle.header.specs.Zero.{no_address, no_addresses, no_number, no_optional_text}
 use Rattle.record_octets.specs.Record.{optional_addresses_octets, addresses_octets, address_octets, optional_number_octets, optional_text_octets, text_octets}
 use Rattle.read_front.proofs.front.read_recipients.Goals as goal
 
-pub returns-in_default : goal.returns-in_default
+pub returns-in_err-present : goal.returns-in_err-present
 unfolding recipients optional_addresses_octets
-returns-in_default c = into-stop (record { present = false; addresses = no_addresses }) _ (search (shape-stop, here-stop, flag-stop, c.in_default.in_default-own.keys2, c.read_flag-a.ensures, c.step.ensures) depth 12)
+returns-in_err-present c = into-stop (record { present = false; addresses = no_addresses }) _ c.in_err-present.field-0.0 c.from_residual.ensures.1 (search (stopping, c.in_err-present.ensures) depth 14 fits 6000)
 
 pub read_addresses-requires : goal.read_addresses-requires
-read_addresses-requires c = (c.requires.0, ready-part 1284 (ready-next 4 (ready-none 1288 c.args.x.now c.requires.1) (omega arith) _ _ c.x-1.given.0 c.store_mark.ensures) (omega arith), ready-part-long 1284 (ready-next 4 (ready-none 1288 c.args.x.now c.requires.1) (omega arith) _ _ c.x-1.given.0 c.store_mark.ensures) (omega arith), lit< tt)
+read_addresses-requires c = (ready-part 1284 (ready-next 4 (ready-none 1288 c.args.x.now c.requires.0) (omega arith) _ _ c.x-1.given.0 c.store_mark.ensures) (omega arith), ready-part-long 1284 (ready-next 4 (ready-none 1288 c.args.x.now c.requires.0) (omega arith) _ _ c.x-1.given.0 c.store_mark.ensures) (omega arith), lit< tt)
 
 pub returns-then-present : goal.returns-then-present
 unfolding recipients optional_addresses_octets
-returns-then-present c = into-tell (record { present = c.in-Got.present; addresses = c.read_addresses.ensures.value }) _ (search (tells-here, tells-flag-then, tells-shape, tells-present, c.if-present.true, c.read_addresses.ensures.told, c.read_flag-a.ensures, c.in-Got.is) depth 14 fits 6000) (λ q e. (ready-all (ready-next 1284 (ready-next 4 (ready-none 1288 c.args.x.now c.requires.1) (omega arith) _ _ c.x-1.given.0 c.store_mark.ensures) (omega arith) _ _ c.x-then-present-1.given.0 (c.read_addresses.ensures.held q e).0), record { addresses = (c.read_addresses.ensures.held q e).1 }))
+returns-then-present c = into-tell (record { present = c.in_ok-present.present; addresses = c.read_addresses.ensures.value }) _ (search (telling, c.if-present.true, c.read_addresses.ensures.told, c.in_ok-present.ensures) depth 14 fits 6000) c.read_addresses.ensures.held (λ h. (ready-all (ready-next 1284 (ready-next 4 (ready-none 1288 c.args.x.now c.requires.0) (omega arith) _ _ c.x-1.given.0 c.store_mark.ensures) (omega arith) _ _ c.x-then-present-1.given.0 h.0), record { addresses = h.1 }))
 
 pub returns : goal.returns
 unfolding recipients optional_addresses_octets mark_octets flag_octets addresses_octets many_octets address_octets optional_number_octets word_octets optional_text_octets text_octets no_addresses no_address no_number no_optional_text
-returns c = into-got (record { present = false; addresses = no_addresses }) _ (left_out recipients _ _ (λ b. record { present = b; addresses = no_addresses }) _ _ c.if-present.false (search getting depth 12)) c.requires.1 (record { addresses = record { list = (refl, (record { urn = record { value = lit< tt }; name = record { text = record { chars = refl; len = lit< tt } } }, (record { urn = record { value = lit< tt }; name = record { text = record { chars = refl; len = lit< tt } } }, (record { urn = record { value = lit< tt }; name = record { text = record { chars = refl; len = lit< tt } } }, (record { urn = record { value = lit< tt }; name = record { text = record { chars = refl; len = lit< tt } } }, (record { urn = record { value = lit< tt }; name = record { text = record { chars = refl; len = lit< tt } } }, (record { urn = record { value = lit< tt }; name = record { text = record { chars = refl; len = lit< tt } } }, (record { urn = record { value = lit< tt }; name = record { text = record { chars = refl; len = lit< tt } } }, (record { urn = record { value = lit< tt }; name = record { text = record { chars = refl; len = lit< tt } } }, (record { urn = record { value = lit< tt }; name = record { text = record { chars = refl; len = lit< tt } } }, (record { urn = record { value = lit< tt }; name = record { text = record { chars = refl; len = lit< tt } } }, (record { urn = record { value = lit< tt }; name = record { text = record { chars = refl; len = lit< tt } } }, (record { urn = record { value = lit< tt }; name = record { text = record { chars = refl; len = lit< tt } } }, (record { urn = record { value = lit< tt }; name = record { text = record { chars = refl; len = lit< tt } } }, (record { urn = record { value = lit< tt }; name = record { text = record { chars = refl; len = lit< tt } } }, (record { urn = record { value = lit< tt }; name = record { text = record { chars = refl; len = lit< tt } } }, (record { urn = record { value = lit< tt }; name = record { text = record { chars = refl; len = lit< tt } } }, tt))))))))))))))))); count = lit< tt } })
+returns c = into-got (record { present = false; addresses = no_addresses }) _ (left_out recipients _ _ (λ b. record { present = b; addresses = no_addresses }) _ _ c.if-present.false (search (getting, c.in_ok-present.ensures) depth 12)) c.requires.0 (record { addresses = record { list = (refl, (record { urn = record { value = lit< tt }; name = record { text = record { chars = refl; len = lit< tt } } }, (record { urn = record { value = lit< tt }; name = record { text = record { chars = refl; len = lit< tt } } }, (record { urn = record { value = lit< tt }; name = record { text = record { chars = refl; len = lit< tt } } }, (record { urn = record { value = lit< tt }; name = record { text = record { chars = refl; len = lit< tt } } }, (record { urn = record { value = lit< tt }; name = record { text = record { chars = refl; len = lit< tt } } }, (record { urn = record { value = lit< tt }; name = record { text = record { chars = refl; len = lit< tt } } }, (record { urn = record { value = lit< tt }; name = record { text = record { chars = refl; len = lit< tt } } }, (record { urn = record { value = lit< tt }; name = record { text = record { chars = refl; len = lit< tt } } }, (record { urn = record { value = lit< tt }; name = record { text = record { chars = refl; len = lit< tt } } }, (record { urn = record { value = lit< tt }; name = record { text = record { chars = refl; len = lit< tt } } }, (record { urn = record { value = lit< tt }; name = record { text = record { chars = refl; len = lit< tt } } }, (record { urn = record { value = lit< tt }; name = record { text = record { chars = refl; len = lit< tt } } }, (record { urn = record { value = lit< tt }; name = record { text = record { chars = refl; len = lit< tt } } }, (record { urn = record { value = lit< tt }; name = record { text = record { chars = refl; len = lit< tt } } }, (record { urn = record { value = lit< tt }; name = record { text = record { chars = refl; len = lit< tt } } }, (record { urn = record { value = lit< tt }; name = record { text = record { chars = refl; len = lit< tt } } }, tt))))))))))))))))); count = lit< tt } })

@@ -11,7 +11,7 @@ use Rattle.read_group.proofs.format.read_standard_version.Goals as goal
 
 pub returns-then-lacking : goal.returns-then-lacking
 unfolding standard_version no_number optional_number_octets word_octets flag_octets mark_octets
-returns-then-lacking c = into-got no_number _ (lacked-read _ _ _ 3 _ (sym c.lacks_standard_version-lacking.ensures ∙ c.if-lacking.true) _ _) c.requires.1 (record { value = lit< tt })
+returns-then-lacking c = into-got no_number _ (lacked-read _ _ _ 3 _ (sym c.lacks_standard_version-lacking.ensures ∙ c.if-lacking.true) _ _) c.requires.0 (record { value = lit< tt })
 
 pub returns : goal.returns
 unfolding standard_version
