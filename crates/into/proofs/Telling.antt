@@ -62,6 +62,14 @@ module _ {A : Type 0} {c : Codec A} {to : A → List ℕ} {Typed : A → Type 0}
   pub into-tell : {P : Type 0} (x : A) (st : Step) → Tells c bs p st x → OnOk st P → (P → (after ≡ to x) × Typed x) → Into c to Typed bs p st after
   into-tell x st t h f = record { value = x; told = t.read; held = on_ok_weaker st f h }
 
+  -- behind which a bit without a cell is read
+  pub into-closed : (x : A) (st : Step) → Tells c bs p st x → (after ≡ to x) × Typed x → Into c to Typed bs p st after
+  into-closed x st t h = record { value = x; told = t.read; held = always st h }
+    where
+      always : {P : Type 0} (u : Step) → P → OnOk u P
+      always (Ok q) k = k
+      always (Err e) k = tt
+
   -- all of it read
   pub into-got : (x : A) (q : BitPlace) → answer (Ok q) x ≡ c.read bs p → after ≡ to x → Typed x → Into c to Typed bs p (Ok q) after
   into-got x q t e y = record { value = x; told = t; held = (e, y) }

@@ -22,4 +22,4 @@ pub read_times-requires : goal.read_times-requires
 read_times-requires c = (ready-part 68 (ready-next 96 (ready-next 104 (ready-none 268 c.args.x.now c.requires.0) (omega arith) _ _ c.x-1.given.0 c.in_ok-at.ensures.held.0) (omega arith) _ _ c.x-2-1.given.0 c.in_ok-at-2.ensures.held.0) (omega arith), ready-part-long 68 (ready-next 96 (ready-next 104 (ready-none 268 c.args.x.now c.requires.0) (omega arith) _ _ c.x-1.given.0 c.in_ok-at.ensures.held.0) (omega arith) _ _ c.x-2-1.given.0 c.in_ok-at-2.ensures.held.0) (omega arith))
 
 pub returns : goal.returns
-returns c = into-tell (c.in_ok-at.ensures.value, (c.in_ok-at-2.ensures.value, c.read_times.ensures.value)) _ (search (tells-here, tells-group-then, c.read_times.ensures.told, c.in_ok-at-2.ensures.told, c.in_ok-at.ensures.told) depth 14) c.read_times.ensures.held (λ h. (ready-all (ready-next 68 (ready-next 96 (ready-next 104 (ready-none 268 c.args.x.now c.requires.0) (omega arith) _ _ c.x-1.given.0 c.in_ok-at.ensures.held.0) (omega arith) _ _ c.x-2-1.given.0 c.in_ok-at-2.ensures.held.0) (omega arith) _ _ c.x-3-1.given.0 h.0), (c.in_ok-at.ensures.held.1, c.in_ok-at-2.ensures.held.1, h.1)))
+returns c = into-tell (c.in_ok-at.ensures.value, (c.in_ok-at-2.ensures.value, c.read_times.ensures.value)) _ (search (telling, c.read_times.ensures.told, c.in_ok-at-2.ensures.told, c.in_ok-at.ensures.told) depth 14) c.read_times.ensures.held (λ h. (ready-all (ready-next 68 (ready-next 96 (ready-next 104 (ready-none 268 c.args.x.now c.requires.0) (omega arith) _ _ c.x-1.given.0 c.in_ok-at.ensures.held.0) (omega arith) _ _ c.x-2-1.given.0 c.in_ok-at-2.ensures.held.0) (omega arith) _ _ c.x-3-1.given.0 h.0), (c.in_ok-at.ensures.held.1, c.in_ok-at-2.ensures.held.1, h.1)))
