@@ -8,15 +8,17 @@ use lib.Seq.{take_all, drop-length}
 use lib.Dec.{leb}
 use borrow.Author.Tests.{le-leb, lt-leb}
 use native.Mathlib.Omega.{arith}
-use denote.Enum.Declared.{tag_of}
 use Rattle.bits.specs.Bits.{bits_of}
 use Rattle.bits.specs.Units.{fill_bits, whole_octets, datagram_limit}
 use Rattle.bits.specs.declared.BitPlace.{BitPlace}
 use Rattle.bits.proofs.OctetBits.{length-bits_of}
 use Rattle.codec.specs.Answer.{Answer, got, refused, pick}
 use Rattle.codec.specs.Refusals.{answer, fault_no}
-use Rattle.codec.specs.declared.Step.{Step}
-use Rattle.codec.specs.contracts.Step as step
+use Rattle.bits.specs.declared.OctetSize.{OctetSize}
+use Rattle.codec.specs.declared.Fault.{Fault}
+use Rattle.codec.specs.declared.FieldFault.{FieldFault}
+use Rattle.codec.specs.declared.Refusal.{Refusal}
+use Rattle.std.specs.Prelude.{Ok, Err}
 use Rattle.codec.proofs.Lawful.{read-within}
 use Rattle.header.specs.Table.{wire}
 use Rattle.codec.specs.Verdict.{Verdict, whether}
@@ -24,10 +26,7 @@ use Rattle.header.specs.declared.Header.{Header}
 use Rattle.header.specs.declared.Wire.{Wire}
 use Rattle.header.proofs.Lawful.{wire-lawful}
 use Rattle.reader.specs.Reading.{Reading, accepted, rejected, record_of, read_fill, verdict_on, accepted_by, settled, filled, judged, reading, behind_header, user_data}
-use Rattle.reader.specs.Told.{Told, told, to_tell, stopped_by, outcome_done}
-use Rattle.reader.specs.declared.HeaderRead.{HeaderRead}
-use Rattle.reader.specs.declared.Outcome.{Outcome}
-use Rattle.reader.specs.contracts.Outcome as outcome
+use Rattle.reader.specs.Told.{Told, told, to_tell, stopped_by}
 
 pub reading-long : (s : List ℕ) → datagram_limit < length s → reading s ≡ rejected 12 0 0
 unfolding reading
@@ -37,29 +36,26 @@ reading-by : (s : List ℕ) → length s ≤ datagram_limit → (a : Answer Wire
 unfolding reading
 reading-by s short a h = rw (le-leb (length s) datagram_limit short, ← h)
 
-pub reading-fields : (s : List ℕ) → length s ≤ datagram_limit → (st : Step) (w : Wire) → answer st w ≡ wire.read (bits_of s) 0 → tag_of step.the_type st ≡ 1 → reading s ≡ stopped_by st
+pub reading-fields : (s : List ℕ) → length s ≤ datagram_limit → (f : FieldFault) (w : Wire) → answer (Err f) w ≡ wire.read (bits_of s) 0 → reading s ≡ stopped_by f
 unfolding answer judged stopped_by
-reading-fields s short (Step.Next p) w e t = absurd (omega arith)
-reading-fields s short (Step.Refused f p) w e t = reading-by s short (refused (fault_no f) p.0) e
+reading-fields s short f w e = reading-by s short (refused (fault_no f.fault) f.place.0) e
 
-module _ (s : List ℕ) (short : length s ≤ datagram_limit) (st : Step) (w : Wire) (end : BitPlace) (e : answer st w ≡ wire.read (bits_of s) 0) (g : st ≡ Step.Next end) where
+module _ (s : List ℕ) (short : length s ≤ datagram_limit) (w : Wire) (end : BitPlace) (e : answer (Ok end) w ≡ wire.read (bits_of s) 0) where
   got-wire : got w end.0 ≡ wire.read (bits_of s) 0
   unfolding answer
-  got-wire = rw g at e
+  got-wire = e
 
   -- the header's octets are octets of the datagram
   pub octets-within : whole_octets end.0 ≤ length s
   octets-within = omega (arith, read-within wire-lawful (bits_of s) end.0 w (sym got-wire), length-bits_of s)
 
-  pub reading-fill : (fs : Step) → answer fs false ≡ read_fill (fill_bits end.0) (bits_of s) end.0 → tag_of step.the_type fs ≡ 1 → reading s ≡ stopped_by fs
+  pub reading-fill : (f : FieldFault) → answer (Err f) false ≡ read_fill (fill_bits end.0) (bits_of s) end.0 → reading s ≡ stopped_by f
   unfolding answer judged filled stopped_by
-  reading-fill (Step.Next q) h t = absurd (omega arith)
-  reading-fill (Step.Refused f q) h t = reading-by s short (got w end.0) got-wire ∙ rw (← h)
+  reading-fill f h = reading-by s short (got w end.0) got-wire ∙ rw (← h)
 
-  pub reading-settled : (fs : Step) → answer fs false ≡ read_fill (fill_bits end.0) (bits_of s) end.0 → tag_of step.the_type fs ≡ 0 → reading s ≡ settled w (whole_octets end.0) (length s - whole_octets end.0)
+  pub reading-settled : (q : BitPlace) → answer (Ok q) false ≡ read_fill (fill_bits end.0) (bits_of s) end.0 → reading s ≡ settled w (whole_octets end.0) (length s - whole_octets end.0)
   unfolding answer judged filled
-  reading-settled (Step.Next q) h t = reading-by s short (got w end.0) got-wire ∙ rw (← h)
-  reading-settled (Step.Refused f q) h t = absurd (omega arith)
+  reading-settled q h = reading-by s short (got w end.0) got-wire ∙ rw (← h)
 
 -- an accepted header's octets are octets of the datagram
 accepted-within : (v : Verdict) (h : Header) (octets n : ℕ) → octets ≤ n → (to_tell (accepted_by v h octets)).octets ≤ n
@@ -103,29 +99,21 @@ unfolding behind_header to_tell
 behind-refused s (accepted h n) e = let z : ◌≡◌ {A = ℕ} 0 1 = cc in absurd (omega arith)
 behind-refused s (rejected f p b) e = refl
 
-pub outcome-done : (x : Outcome) → tag_of outcome.the_type x ≡ 0 → outcome_done x ≡ true
-unfolding outcome_done
-outcome-done Outcome.Done e = refl
-outcome-done (Outcome.Refused f p b) e = absurd (omega arith)
-
-pub outcome-refused : (x : Outcome) → tag_of outcome.the_type x ≡ 1 → outcome_done x ≡ false
-unfolding outcome_done
-outcome-refused Outcome.Done e = absurd (omega arith)
-outcome-refused (Outcome.Refused f p b) e = refl
-
 -- the part of the datagram that is handed back
-module _ (s : List ℕ) (r : HeaderRead) (e : told r ≡ to_tell (reading s)) where
-  pub length-within : r.length.0 ≤ length s
-  length-within = omega (arith, ap (λ (t : Told). t.octets) e, reading-within s)
+module _ (s : List ℕ) where
+  pub length-within : (n : OctetSize) → told (Ok n) ≡ to_tell (reading s) → n.0 ≤ length s
+  unfolding told
+  length-within n e = omega (arith, ap (λ (t : Told). t.octets) e, reading-within s)
 
-  pub part-done : outcome_done r.outcome ≡ true → take (length s - r.length.0) (drop r.length.0 s) ≡ user_data s
-  part-done d =
-      let n = r.length.0 in
-      take_all (length s - n) (drop n s) (rw length-drop (omega arith))
+  pub part-done : (n : OctetSize) → told (Ok n) ≡ to_tell (reading s) → take (length s - n.0) (drop n.0 s) ≡ user_data s
+  unfolding told
+  part-done n e =
+      take_all (length s - n.0) (drop n.0 s) (rw length-drop (omega arith))
       ∙ ap (λ (k : ℕ). drop k s) (ap (λ (t : Told). t.octets) e)
-      ∙ sym (behind-done s (reading s) (sym (ap (λ (t : Told). t.done) e) ∙ d))
+      ∙ sym (behind-done s (reading s) (sym (ap (λ (t : Told). t.done) e)))
 
-  pub part-refused : outcome_done r.outcome ≡ false → take (length s - length s) (drop (length s) s) ≡ user_data s
-  part-refused d =
+  pub part-refused : (r : Refusal Fault) → told (Err r) ≡ to_tell (reading s) → take (length s - length s) (drop (length s) s) ≡ user_data s
+  unfolding told
+  part-refused r e =
       take_all (length s - length s) (drop (length s) s) (rw length-drop (omega arith)) ∙ drop-length s
-      ∙ sym (behind-refused s (reading s) (sym (ap (λ (t : Told). t.done) e) ∙ d))
+      ∙ sym (behind-refused s (reading s) (sym (ap (λ (t : Told). t.done) e)))

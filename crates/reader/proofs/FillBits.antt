@@ -1,34 +1,29 @@
 -- Fill bits, one after the other. Assumes nothing.
-use Prim.Native.Nat.{ℕ, zero, suc, ◌-◌, ◌<◌, ◌≤◌}
+use Prim.Native.Nat.{ℕ, zero, suc, ◌+◌, ◌-◌, ◌<◌, ◌≤◌}
 use mathlib.Core.Path.{◌≡◌, refl, ap, sym, ◌∙◌}
 use mathlib.Core.Bool.{Bool, false}
 use mathlib.Core.List.{List}
 use native.Mathlib.Omega.{arith}
-use denote.Enum.Declared.{tag_of}
 use Rattle.bits.specs.declared.BitPlace.{BitPlace}
-use Rattle.codec.specs.Answer.{got, next}
+use Rattle.codec.specs.Answer.{got, next, refused}
 use Rattle.codec.specs.Codec.{must}
-use Rattle.codec.specs.Refusals.{answer}
-use Rattle.codec.specs.declared.Step.{Step}
-use Rattle.codec.specs.contracts.Step as step
+use Rattle.codec.specs.Refusals.{answer, fault_no}
+use Rattle.codec.specs.declared.FieldFault.{FieldFault}
+use Rattle.std.specs.Prelude.{Ok, Err}
 use Rattle.reader.specs.Reading.{read_fill}
 
-one_more : (left : ℕ) → 0 < left → left ≡ suc (left - 1)
-one_more left h = omega arith
+one_more : (left i : ℕ) → i < left → left - i ≡ suc (left - (i + 1))
+one_more left i h = omega arith
 
 -- past a fill bit that is 0, and at one that is refused
-pub fill_more : (bs : List Bool) (left : ℕ) (p q : BitPlace) (st : Step) → 0 < left → answer st false ≡ (must false 9).read bs p.0 → st ≡ Step.Next q → read_fill left bs p.0 ≡ read_fill (left - 1) bs q.0
+pub fill_more : (bs : List Bool) (left i : ℕ) (p q : BitPlace) → i < left → answer (Ok q) false ≡ (must false 9).read bs p.0 → read_fill (left - i) bs p.0 ≡ read_fill (left - (i + 1)) bs q.0
 unfolding read_fill next answer
-fill_more bs left p q st h e g =
-    let k : got false q.0 ≡ (must false 9).read bs p.0 = rw g at e in
-    ap (λ (n : ℕ). read_fill n bs p.0) (one_more left h) ∙ rw (← k)
+fill_more bs left i p q h e = ap (λ (n : ℕ). read_fill n bs p.0) (one_more left i h) ∙ rw (← e)
 
-pub fill_stop : (bs : List Bool) (left : ℕ) (p : BitPlace) (st : Step) → 0 < left → answer st false ≡ (must false 9).read bs p.0 → tag_of step.the_type st ≡ 1 → answer st false ≡ read_fill left bs p.0
+pub fill_stop : (bs : List Bool) (left i : ℕ) (p : BitPlace) (f : FieldFault) → i < left → answer (Err f) false ≡ (must false 9).read bs p.0 → answer (Err f) false ≡ read_fill (left - i) bs p.0
 unfolding read_fill next answer
-fill_stop bs left p (Step.Next q) h e t = absurd (omega arith)
-fill_stop bs left p (Step.Refused f q) h e t = sym (ap (λ (n : ℕ). read_fill n bs p.0) (one_more left h) ∙ rw (← e))
+fill_stop bs left i p f h e = sym (ap (λ (n : ℕ). read_fill n bs p.0) (one_more left i h) ∙ rw (← e))
 
-pub fill_none : (bs : List Bool) (left : ℕ) (p : BitPlace) → left ≤ 0 → answer (Step.Next p) false ≡ read_fill left bs p.0
+pub fill_none : (bs : List Bool) (left i : ℕ) (p : BitPlace) → left ≤ i → answer (Ok p) false ≡ read_fill (left - i) bs p.0
 unfolding read_fill answer
-fill_none bs zero p h = refl
-fill_none bs (suc n) p h = absurd (omega arith)
+fill_none bs left i p h = let z : 0 ≡ left - i = omega arith in ap (λ (n : ℕ). read_fill n bs p.0) z

@@ -1,12 +1,13 @@
 -- What the public reading returns, component by component: whether it is done, number, place and block of the refusal (each 0 for none) and the header's octets,
 -- 0 on a refusal; and what the record's octets are afterwards.
-use Rattle.std.specs.Prelude.{ℕ, Bool, true, false, ◌≡◌, List}
+use Rattle.std.specs.Prelude.{ℕ, Bool, true, false, ◌≡◌, List, Result, Ok, Err}
 use Rattle.codec.specs.Refusals.{fault_no}
-use Rattle.codec.specs.declared.Step.{Step}
+use Rattle.bits.specs.declared.OctetSize.{OctetSize}
+use Rattle.codec.specs.declared.Fault.{Fault}
+use Rattle.codec.specs.declared.FieldFault.{FieldFault}
+use Rattle.codec.specs.declared.Refusal.{Refusal}
 use Rattle.record_octets.specs.Record.{header_in, header_octets}
 use Rattle.reader.specs.Reading.{Reading, accepted, rejected}
-use Rattle.reader.specs.declared.Outcome.{Outcome}
-use Rattle.reader.specs.declared.HeaderRead.{HeaderRead}
 
 pub record Told : Type 0 where
   pub done : Bool
@@ -15,32 +16,10 @@ pub record Told : Type 0 where
   pub block : ℕ
   pub octets : ℕ
 
-unfoldable pub outcome_done : Outcome → Bool
-outcome_done Outcome.Done = true
-outcome_done (Outcome.Refused f p b) = false
-
-unfoldable pub outcome_no : Outcome → ℕ
-outcome_no Outcome.Done = 0
-outcome_no (Outcome.Refused f p b) = fault_no f
-
-unfoldable pub outcome_place : Outcome → ℕ
-outcome_place Outcome.Done = 0
-outcome_place (Outcome.Refused f p b) = p.0
-
-unfoldable pub outcome_block : Outcome → ℕ
-outcome_block Outcome.Done = 0
-outcome_block (Outcome.Refused f p b) = b.0
-
 -- what the call's result tells
-abbrev pub told : HeaderRead → Told
-told r =
-    record {
-      done = outcome_done r.outcome;
-      number = outcome_no r.outcome;
-      place = outcome_place r.outcome;
-      block = outcome_block r.outcome;
-      octets = r.length.0;
-    }
+unfoldable pub told : Result OctetSize (Refusal Fault) → Told
+told (Ok n) = record { done = true; number = 0; place = 0; block = 0; octets = n.0 }
+told (Err e) = record { done = false; number = fault_no e.fault; place = e.place.0; block = e.block.0; octets = 0 }
 
 -- what it has to tell
 unfoldable pub to_tell : Reading → Told
@@ -62,7 +41,6 @@ unfoldable pub Fills : Reading → List ℕ → Type 0
 Fills (accepted h n) s = (s ≡ header_octets h) × (header_in s ≡ h)
 Fills (rejected f p b) s = Unit {0}
 
--- the refusal that a step of reading ended with
-unfoldable pub stopped_by : Step → Reading
-stopped_by (Step.Refused f p) = rejected (fault_no f) p.0 0
-stopped_by (Step.Next p) = rejected 1 p.0 0
+-- the refusal that the reading of a field ended with
+unfoldable pub stopped_by : FieldFault → Reading
+stopped_by e = rejected (fault_no e.fault) e.place.0 0
