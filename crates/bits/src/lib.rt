@@ -33,13 +33,6 @@ pub fn end_place(s: &[u8]) -> BitPlace
     BitPlace(8 * s.len())
 }
 
-// The smaller of two numbers.
-fn least(a: usize, b: usize) -> usize
-    ensures { result ≡ min a b }
-{
-    if a < b { a } else { b }
-}
-
 // The n bits of x from bit b on.
 fn fragment(x: u32, b: usize, n: usize) -> u32
     requires { (b < 32) × (n < 32) }
@@ -71,14 +64,12 @@ fn read_long(s: &[u8], at: BitPlace, w: usize) -> u32
     let steps = (skip + w + 7) / 8;
     let mut number: u32 = 0;
     let mut done: usize = 0;
-    let mut j: usize = 0;
-    while j < steps {
+    for j in 0..steps {
         let b = (skip + done) % 8;
-        let n = least(8 - b, w - done);
+        let n = (8 - b).min(w - done);
         let f = fragment(s[octet + j] as u32, b, n);
         number += f << done;
         done += n;
-        j += 1;
     }
     number
 }
@@ -135,15 +126,13 @@ fn write_long(out: &mut [u8], at: BitPlace, w: usize, v: u32)
     let skip = k % 8;
     let steps = (skip + w + 7) / 8;
     let mut done: usize = 0;
-    let mut j: usize = 0;
-    while j < steps {
+    for j in 0..steps {
         let b = (skip + done) % 8;
-        let n = least(8 - b, w - done);
+        let n = (8 - b).min(w - done);
         let f = fragment(v, done, n);
         let o = octet + j;
         out[o] = patched(out[o], b, n, f);
         done += n;
-        j += 1;
     }
 }
 
