@@ -20,9 +20,7 @@ pub struct OctetSize(pub usize);
 pub fn whole_octets(end: BitPlace) -> OctetSize
     ensures { result.0 ≡ whole_octets end.0 }
 {
-    let k = end.0;
-    let begun = (k % 8 + 7) / 8;
-    OctetSize(k / 8 + begun)
+    OctetSize(end.0.div_ceil(8))
 }
 
 // The place behind the last bit of s.
