@@ -20,9 +20,7 @@ pub struct OctetSize(pub usize);
 pub fn whole_octets(end: BitPlace) -> OctetSize
     ensures { result.0 ≡ whole_octets end.0 }
 {
-    let k = end.0;
-    let begun = (k % 8 + 7) / 8;
-    OctetSize(k / 8 + begun)
+    OctetSize(end.0.div_ceil(8))
 }
 
 // The octets of one datagram, no more than a datagram can hold.
@@ -39,13 +37,6 @@ impl<'a> Datagram<'a> {
     {
         BitPlace(8 * self.octets.len())
     }
-}
-
-// The smaller of two numbers.
-fn least(a: usize, b: usize) -> usize
-    ensures { result ≡ min a b }
-{
-    if a < b { a } else { b }
 }
 
 // The n bits of x from bit b on.
@@ -79,14 +70,12 @@ fn read_long(s: &[u8], at: BitPlace, w: usize) -> u32
     let steps = (skip + w + 7) / 8;
     let mut number: u32 = 0;
     let mut done: usize = 0;
-    let mut j: usize = 0;
-    while j < steps {
+    for j in 0..steps {
         let b = (skip + done) % 8;
-        let n = least(8 - b, w - done);
+        let n = (8 - b).min(w - done);
         let f = fragment(s[octet + j] as u32, b, n);
         number += f << done;
         done += n;
-        j += 1;
     }
     number
 }
@@ -143,15 +132,13 @@ fn write_long(out: &mut [u8], at: BitPlace, w: usize, v: u32)
     let skip = k % 8;
     let steps = (skip + w + 7) / 8;
     let mut done: usize = 0;
-    let mut j: usize = 0;
-    while j < steps {
+    for j in 0..steps {
         let b = (skip + done) % 8;
-        let n = least(8 - b, w - done);
+        let n = (8 - b).min(w - done);
         let f = fragment(v, done, n);
         let o = octet + j;
         out[o] = patched(out[o], b, n, f);
         done += n;
-        j += 1;
     }
 }
 

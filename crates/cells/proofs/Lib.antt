@@ -5,5 +5,4 @@ pub mod Lists
 pub mod Sets
 pub mod Moved
 pub mod Inserted
-mod Shift
 pub mod Copying

@@ -8,16 +8,15 @@ use crate::layout::DAY;
 use number::Range;
 
 // A day more in each year that divides by four. Year 0 does: it is 2000.
+#[tactic(auto, using(std::proofs::lemmas::Bool::Decides::nat_tests), unfolding(crate::specs::Calendar::days_in))]
 fn in_february(year: u32) -> u32
     ensures { result ≡ days_in year 2 }
 {
-    if year % 4 == 0 {
-        return 29;
-    }
-    28
+    if year % 4 == 0 { 29 } else { 28 }
 }
 
 // By the year's last two digits. A number that is no month's has 31 days here; it is refused before they are asked for.
+#[tactic(auto, using(std::proofs::lemmas::Bool::Decides::nat_tests), unfolding(crate::specs::Calendar::days_in))]
 pub fn days_in(year: u32, month: u32) -> u32
     ensures { result ≡ days_in year month }
 {

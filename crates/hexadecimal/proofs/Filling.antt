@@ -51,13 +51,13 @@ module _ (s : List ℕ) (i v : ℕ) (h : i < length s) where
 next-drop : (i : ℕ) (s : List ℕ) → drop (suc i) s ≡ drop 1 (drop i s)
 next-drop i s = let e : i + 1 ≡ suc i = omega arith in sym (drop-drop 1 i s ∙ ap (λ (k : ℕ). drop k s) e)
 
-pub filling-more : (l before after : List ℕ) (i d x y v : ℕ) → Filling l before i after → i < length after → 2 * i + 1 < length l → x ≡ value_of (get_or l (2 * i) d) → y ≡ value_of (get_or l (2 * i + 1) d) → v ≡ x % 16 * 16 + y % 16 → Filling l before (i + 1) (set after i v)
-filling-more l before after i d x y v f h k p q r =
+pub filling-more : (l before after : List ℕ) (i d v : ℕ) → Filling l before i after → i < length after → 2 * i + 1 < length l → v ≡ value_of (get_or l (2 * i) d) % 16 * 16 + value_of (get_or l (2 * i + 1) d) % 16 → Filling l before (i + 1) (set after i v)
+filling-more l before after i d v f h k r =
     let n : i + 1 ≡ suc i = omega arith in
     let m : 2 * suc i ≡ suc (suc (2 * i)) = omega arith in
     let j : 2 * i + 1 ≡ suc (2 * i) = omega arith in
-    let q' : y ≡ value_of (get_or l (suc (2 * i)) d) = q ∙ ap (λ (z : ℕ). value_of (get_or l z d)) j in
-    let o : octets_in (drop (2 * i) l) ≡ v ∷ octets_in (drop (2 * suc i) l) = octet-at l (2 * i) d (omega arith) ∙ rw (← p, ← q', ← r, m) in
+    let r' : v ≡ value_of (get_or l (2 * i) d) % 16 * 16 + value_of (get_or l (suc (2 * i)) d) % 16 = r ∙ ap (λ (z : ℕ). value_of (get_or l (2 * i) d) % 16 * 16 + value_of (get_or l z d) % 16) j in
+    let o : octets_in (drop (2 * i) l) ≡ v ∷ octets_in (drop (2 * suc i) l) = octet-at l (2 * i) d (omega arith) ∙ rw (← r', m) in
     let b : take (suc i) (set after i v) ++ octets_in (drop (2 * suc i) l) ≡ octets_in l =
     ap (λ (z : List ℕ). z ++ octets_in (drop (2 * suc i) l)) (set_front after i v h) ∙ append_assoc (take i after) (v ∷ []) (octets_in (drop (2 * suc i) l)) ∙ ap (λ (z : List ℕ). take i after ++ z) (sym o) ∙ f.begun in
     let e : drop (suc i) (set after i v) ≡ drop (suc i) before =

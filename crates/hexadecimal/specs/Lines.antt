@@ -2,7 +2,8 @@
 use Rattle.std.specs.Prelude.{ℕ, ◌+◌, ◌*◌, ◌-◌, ◌%◌, Bool, true, ◌&&◌, List, [], ◌∷◌, ◌++◌, length, drop, leb, eqb}
 use Rattle.std.proofs.Math.Option.{Option, none, some}
 use Rattle.codec.specs.Answer.{pick}
-use Rattle.hexadecimal.specs.declared.LineRead.{LineRead}
+use Rattle.std.specs.Prelude as std
+use Rattle.bits.specs.declared.OctetSize.{OctetSize}
 
 -- the value of a hexadecimal digit: 0 to 9 from 48 on, A to F from 65 on, a to f from 97 on
 unfoldable pub digit_of : ℕ → Option ℕ
@@ -37,9 +38,9 @@ unfoldable pub octets_of : List ℕ → Option (List ℕ)
 octets_of l = pick (is_line l) (some (octets_in l)) none
 
 -- what the call's result tells, and what it has to tell: the count of the octets, or that the line is skipped
-unfoldable pub told : LineRead → Option ℕ
-told LineRead.Skipped = none
-told (LineRead.Octets n) = some n.0
+unfoldable pub told : std.Option OctetSize → Option ℕ
+told std.None = none
+told (std.Some n) = some n.0
 
 unfoldable pub to_tell : Option (List ℕ) → Option ℕ
 to_tell none = none

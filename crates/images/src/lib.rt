@@ -24,10 +24,7 @@ use table_octets::in_key;
 fn used(len: u32) -> u32
     ensures { (result ≡ min len 64) × (result ≤ 64) }
 {
-    if 64 < len {
-        return 64;
-    }
-    len
+    len.min(64)
 }
 
 fn put_characters(x: &mut [u8], s: &[u8], n: usize)
@@ -73,8 +70,7 @@ fn put_number(x: &mut [u8], n: &[u8]) -> bool
     ensures { (result ≡ (optional_number_in n.now).present) × (x.new ≡ optional_number_octets (number_image (option_of (optional_number_in n.now)))) × ((optional_number_in n.now).value < 4294967296) }
 {
     let v = load_optional(n);
-    let present = v.present;
-    if present {
+    if v.present {
         store_mark(
             &mut x[in_optional_number::PRESENT..in_optional_number::VALUE],
             true,

@@ -4,7 +4,8 @@ use mathlib.Core.Path.{◌≡◌, refl, sym, ap, ◌∙◌}
 use mathlib.Core.Bool.{Bool, true, false, ◌||◌}
 use mathlib.Core.List.{List, [], ◌∷◌, ◌++◌, map, append_assoc}
 use mathlib.Core.Option.{Option}
-use lib.ListN.{length, take, length-append}
+use lib.ListN.{length, take, get_or, length-append, length-take}
+use lib.Seq.{get_or-take}
 use lib.Dec.{leb, eqb}
 use borrow.Author.Tests.{le-leb, lt-leb, eq-eqb, ne_eqb}
 use native.Mathlib.Omega.{arith}
@@ -28,15 +29,6 @@ use Rattle.row_text.proofs.Lines.{lines, character-lines, recipient-lines, used-
 -- a character that is escaped in a name
 abbrev special : ℕ → Bool
 special c = leb c 31 || eqb c 34 || eqb c 92
-
-pub control-special : (c : ℕ) → c ≤ 31 → true ≡ special c
-control-special c h = rw (le-leb c 31 h)
-
-pub quote-special : (c : ℕ) → c ≡ 34 → true ≡ special c
-quote-special c e = rw e
-
-pub last-special : (c : ℕ) → 31 < c → (c ≡ 34 → ⊥) → eqb c 92 ≡ special c
-last-special c h k = rw (lt-leb c 31 h, ne_eqb c 34 k)
 
 pub escaped-special : (c : ℕ) (b : Bool) → b ≡ special c → b ≡ true → escaped c ≡ 92 ∷ hex_digit (c / 16) ∷ hex_digit (c % 16) ∷ []
 unfolding escaped
@@ -156,3 +148,10 @@ module _ (r : Row) (a : Requests) (n : ℕ) (asks : a ≡ r.asked) (counts : n �
 
   pub row-length : length (row_text (row_of r)) ≡ length (key_line (key_of r.key) (ask_of a)) + length (recipient_lines (ask_of a) (map recipient_of (take n r.recipients)))
   row-length = rw (row-parts, length-append)
+
+-- the used characters of a text's octets are so many, and these
+pub used-characters : (n : ℕ) (x : List ℕ) → length x ≡ 68 → n ≤ 64 → length (take n (take 64 x)) ≡ n
+used-characters n x h k = simp length-take (omega arith)
+
+pub used-character : (n : ℕ) (x : List ℕ) (i : ℕ) → i < n → get_or (take n (take 64 x)) i 0 ≡ get_or (take 64 x) i 0
+used-character n x i h = get_or-take n (take 64 x) i 0 h

@@ -16,21 +16,14 @@ use record_octets::{in_address, in_optional_text, in_text};
 pub fn used(count: u32, cells: usize) -> usize
     ensures { result ≡ min count cells }
 {
-    let n = count as usize;
-    if n < cells { n } else { cells }
+    (count as usize).min(cells)
 }
 
 // Controls, and the two characters that would end a name or begin an escape.
 fn needs_escape(c: u8) -> bool
     ensures { result ≡ leb c 31 || eqb c 34 || eqb c 92 }
 {
-    if c <= 31 {
-        return true;
-    }
-    if c == 34 {
-        return true;
-    }
-    c == 92
+    c <= 31 || c == b'"' || c == b'\\'
 }
 
 fn put_hex_digit(out: &mut [u8], at: OctetSize, n: u8) -> OctetSize
@@ -38,7 +31,7 @@ fn put_hex_digit(out: &mut [u8], at: OctetSize, n: u8) -> OctetSize
     ensures { Puts (hex_digit n ∷ []) out.old out.new at.0 result.0 }
 {
     if n <= 9 {
-        return put_octet(out, at, 48 + n);
+        return put_octet(out, at, b'0' + n);
     }
     put_octet(out, at, 87 + n)
 }
@@ -57,7 +50,7 @@ fn put_escaped(out: &mut [u8], at: OctetSize, c: u8) -> OctetSize
     ensures { Puts (escaped c) out.old out.new at.0 result.0 }
 {
     if needs_escape(c) {
-        let at = put_octet(out, at, 92);
+        let at = put_octet(out, at, b'\\');
         let at = put_hex_digit(out, at, c / 16);
         return put_hex_digit(out, at, c % 16);
     }
@@ -73,11 +66,8 @@ fn characters_length(x: &[u8]) -> OctetSize
     let count = load_word(&x[in_text::LEN..in_text::END]);
     let n = used(count, 64);
     let mut size = OctetSize(0);
-    let mut i: usize = 0;
-    while i < n {
-        let one = escaped_length(chars[i]);
-        size = OctetSize(size.0 + one.0);
-        i += 1;
+    for &c in &chars[..n] {
+        size = OctetSize(size.0 + escaped_length(c).0);
     }
     size
 }
@@ -90,10 +80,8 @@ fn put_characters(out: &mut [u8], at: OctetSize, x: &[u8]) -> OctetSize
     let count = load_word(&x[in_text::LEN..in_text::END]);
     let n = used(count, 64);
     let mut place = at;
-    let mut i: usize = 0;
-    while i < n {
-        place = put_escaped(out, place, chars[i]);
-        i += 1;
+    for &c in &chars[..n] {
+        place = put_escaped(out, place, c);
     }
     place
 }
@@ -102,9 +90,9 @@ fn put_name(out: &mut [u8], at: OctetSize, x: &[u8]) -> OctetSize
     requires { (at.0 + length (characters (chars_of (text_in x.now))) + 2 ≤ length out.old) × (length x.now ≡ size_of_text) }
     ensures { Puts (34 ∷ characters (chars_of (text_in x.now)) ++ 34 ∷ []) out.old out.new at.0 result.0 }
 {
-    let at = put_octet(out, at, 34);
+    let at = put_octet(out, at, b'"');
     let at = put_characters(out, at, x);
-    put_octet(out, at, 34)
+    put_octet(out, at, b'"')
 }
 
 pub fn address_length(x: &[u8]) -> OctetSize

@@ -19,10 +19,8 @@ pub fn put_octets(out: &mut [u8], at: OctetSize, s: &[u8]) -> OctetSize
     ensures { Puts s.now out.old out.new at.0 result.0 }
 {
     let mut place = at;
-    let mut i: usize = 0;
-    while i < s.len() {
-        place = put_octet(out, place, s[i]);
-        i += 1;
+    for &c in s {
+        place = put_octet(out, place, c);
     }
     place
 }

@@ -114,11 +114,9 @@ pub fn recipients_length(asked: Requests, list: &[u8], count: u32) -> OctetSize
 {
     let n = used(count, 16);
     let mut size = OctetSize(0);
-    let mut i: usize = 0;
-    while i < n {
+    for i in 0..n {
         let one = recipient_length(asked, entry(list, i, in_row::ENTRY));
         size = OctetSize(size.0 + one.0);
-        i += 1;
     }
     size
 }
@@ -135,10 +133,8 @@ pub fn put_recipients(
 {
     let n = used(count, 16);
     let mut place = at;
-    let mut i: usize = 0;
-    while i < n {
+    for i in 0..n {
         place = put_recipient(out, place, asked, entry(list, i, in_row::ENTRY));
-        i += 1;
     }
     place
 }

@@ -14,7 +14,7 @@ use crate::digits::{decimal_length, put_decimal, put_octet, put_octets, put_two_
 use crate::recipients::{put_recipients, recipients_length};
 use bits::OctetSize;
 use cells::load_word;
-use header::Requests;
+use header::{Dtg, Requests};
 use leaves::moment::load_stamp;
 use leaves::numbers::load_optional;
 use leaves::requests::load_requests;
@@ -39,10 +39,7 @@ fn put_dtg(out: &mut [u8], at: OctetSize, k: &[u8]) -> OctetSize
     requires { (at.0 + 18 ≤ length out.old) × (length k.now ≡ size_of_key) }
     ensures { Puts (32 ∷ dtg_text (key_of (key_in k.now))) out.old out.new at.0 result.0 }
 {
-    let stamp = load_stamp(&k[in_key::STAMP..in_key::END]);
-    let dtg = stamp.dtg;
-    let date = dtg.date;
-    let time = dtg.time;
+    let Dtg { date, time } = load_stamp(&k[in_key::STAMP..in_key::END]).dtg;
     let at = put_octet(out, at, b' ');
     let at = put_three(out, at, b'-', date.year, date.month, date.day);
     let at = put_octet(out, at, b' ');

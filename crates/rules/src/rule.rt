@@ -1,4 +1,6 @@
 // The rules: one function each, and a block's rank among them.
+#![tactic(auto, using(std::proofs::lemmas::Bool::Decides::nat_tests), unfolding(header::specs::Rules::rule_a, header::specs::Rules::rule_b, header::specs::Rules::rule_c, header::specs::Rules::rule_d, header::specs::Rules::rule_e, header::specs::Rules::rule_f, header::specs::Rules::rule_f_header, header::specs::Rules::rule_g, header::specs::Rules::rule_h, header::specs::Rules::rule_i))]
+
 ghost use Rattle.std.specs.Prelude.{◌≡◌, length};
 ghost use Rattle.header.specs.Rules.{rule_a, rule_b, rule_c, rule_d, rule_e, rule_f, rule_f_header, rule_g, rule_h, rule_i, rules};
 ghost use Rattle.record_octets.specs.Record.{size_of_block, block_in};
@@ -15,11 +17,7 @@ fn rule_a(x: Setting, b: &[u8]) -> bool
     requires { length b.now ≡ size_of_block }
     ensures { result ≡ rule_a x (block_in b.now) }
 {
-    let originator = x.originator;
-    if originator {
-        return true;
-    }
-    !has_requests(b)
+    x.originator || !has_requests(b)
 }
 
 // Rule (b): with G8 neither G6 nor G7.
@@ -27,13 +25,7 @@ fn rule_b(x: Setting, b: &[u8]) -> bool
     requires { length b.now ≡ size_of_block }
     ensures { result ≡ rule_b x (block_in b.now) }
 {
-    if has_response(b) {
-        if has_perish(b) {
-            return false;
-        }
-        return !has_requests(b);
-    }
-    true
+    !has_response(b) || !(has_perish(b) || has_requests(b))
 }
 
 // Rule (c): no G4 in UMF 1.
@@ -41,10 +33,7 @@ fn rule_c(x: Setting, b: &[u8]) -> bool
     requires { length b.now ≡ size_of_block }
     ensures { result ≡ rule_c x (block_in b.now) }
 {
-    if umf(b) == 1 {
-        return !has_identity(b);
-    }
-    true
+    umf(b) != 1 || !has_identity(b)
 }
 
 // Rule (d): nor in UMF 4.
@@ -52,10 +41,7 @@ fn rule_d(x: Setting, b: &[u8]) -> bool
     requires { length b.now ≡ size_of_block }
     ensures { result ≡ rule_d x (block_in b.now) }
 {
-    if umf(b) == 4 {
-        return !has_identity(b);
-    }
-    true
+    umf(b) != 4 || !has_identity(b)
 }
 
 // Rule (e): no G8 in a compressed message.
@@ -63,22 +49,14 @@ fn rule_e(x: Setting, b: &[u8]) -> bool
     requires { length b.now ≡ size_of_block }
     ensures { result ≡ rule_e x (block_in b.now) }
 {
-    let compression = x.compression;
-    if compression {
-        return !has_response(b);
-    }
-    true
+    !x.compression || !has_response(b)
 }
 
 // Rule (f), of the record: of several blocks the header has its size.
 fn rule_f_header(x: Setting) -> bool
     ensures { result ≡ rule_f_header x }
 {
-    let several = x.several;
-    if several {
-        return x.sized;
-    }
-    true
+    !x.several || x.sized
 }
 
 // Rule (f), of a block: of several blocks each has its size.
@@ -86,12 +64,7 @@ fn rule_f(x: Setting, b: &[u8]) -> bool
     requires { length b.now ≡ size_of_block }
     ensures { result ≡ rule_f x (block_in b.now) }
 {
-    let several = x.several;
-    if several {
-        let size = message_size(b);
-        return size.present;
-    }
-    true
+    !x.several || message_size(b).present
 }
 
 // Rule (g): a CANTCO reason with R/C 6 alone.
@@ -99,13 +72,7 @@ fn rule_g(x: Setting, b: &[u8]) -> bool
     requires { length b.now ≡ size_of_block }
     ensures { result ≡ rule_g x (block_in b.now) }
 {
-    if has_response(b) {
-        if compliance_code(b) == 6 {
-            return true;
-        }
-        return !has_cantco(b);
-    }
-    true
+    !has_response(b) || compliance_code(b) == 6 || !has_cantco(b)
 }
 
 // Rule (h): a CANTPRO reason with R/C 2 alone.
@@ -113,13 +80,7 @@ fn rule_h(x: Setting, b: &[u8]) -> bool
     requires { length b.now ≡ size_of_block }
     ensures { result ≡ rule_h x (block_in b.now) }
 {
-    if has_response(b) {
-        if compliance_code(b) == 2 {
-            return true;
-        }
-        return !has_cantpro(b);
-    }
-    true
+    !has_response(b) || compliance_code(b) == 2 || !has_cantpro(b)
 }
 
 // Rule (i): what G7 asks needs G5.
@@ -127,18 +88,7 @@ fn rule_i(x: Setting, b: &[u8]) -> bool
     requires { length b.now ≡ size_of_block }
     ensures { result ≡ rule_i x (block_in b.now) }
 {
-    if has_requests(b) {
-        if asks_machine(b) {
-            return has_origin(b);
-        }
-        if asks_acknowledge(b) {
-            return has_origin(b);
-        }
-        if asks_reply(b) {
-            return has_origin(b);
-        }
-    }
-    true
+    !has_requests(b) || !(asks_machine(b) || asks_acknowledge(b) || asks_reply(b)) || has_origin(b)
 }
 
 // How many rules a block keeps before the first that it breaks.
@@ -177,11 +127,9 @@ pub fn rank_of(x: Setting, b: &[u8]) -> u32
 }
 
 // How many the record keeps as a whole: only (f) asks something of it.
+#[tactic(auto, unfolding(crate::specs::Ranks::whole_rank))]
 pub fn whole_rank(x: Setting) -> u32
     ensures { result ≡ whole_rank (rules x) }
 {
-    if rule_f_header(x) {
-        return 9;
-    }
-    5
+    if rule_f_header(x) { 9 } else { 5 }
 }

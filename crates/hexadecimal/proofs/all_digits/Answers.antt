@@ -1,16 +1,10 @@
--- `hexadecimal::all_digits` meets its contract. The invariant: the characters from i on decide. Assumes nothing.
-use borrow.Author.Rules.{rules}
-use Rattle.hexadecimal.proofs.Digits.{looked-none, looked-more, looked-bad, looked-all}
+-- `hexadecimal::all_digits` meets its contract. Assumes nothing.
+use Rattle.std.proofs.Common.{◌∙◌, leb, rules, tests}
+use Rattle.std.proofs.lemmas.Iterator.{YieldsList-from_slice}
+use Rattle.std.proofs.lemmas.Iterator.Search.{all_from_yields_List}
+use Rattle.hexadecimal.specs.Lines.{value_of}
+use Rattle.hexadecimal.proofs.Digits.{all-digits}
 use Rattle.hexadecimal.proofs.all_digits.Goals as goal
 
-pub loop-i-init : goal.loop-i-init
-loop-i-init c = looked-none _
-
-pub returns-then-x-gt15 : goal.returns-then-x-gt15
-returns-then-x-gt15 c = looked-bad _ _ _ _ c.loop-i.invariant (search rules) c.value_of-x.ensures (search rules)
-
-pub loop-i-preserved : goal.loop-i-preserved
-loop-i-preserved c = looked-more _ _ _ _ c.loop-i.invariant (search rules) c.value_of-x.ensures (search rules)
-
 pub returns : goal.returns
-returns c = looked-all _ _ c.loop-i.invariant (search rules)
+returns c = all_from_yields_List (λ x. leb (value_of x) 15) _ _ _ c.all.ensures.ran (YieldsList-from_slice c.args.line.now cc) (λ x b q k. search (rules, tests)) ∙ all-digits c.args.line.now

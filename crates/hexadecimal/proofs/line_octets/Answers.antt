@@ -12,11 +12,11 @@ returns-then-not-is_line c =
     let e : is_line c.args.line.now ≡ false = sym c.is_line.ensures ∙ c.if-not-is_line.true in
     (tell-skipped c.args.line.now e, kept_out c.args.line.now _ e)
 
-pub put_line-size-requires : goal.put_line-size-requires
-put_line-size-requires c = (sym c.is_line.ensures ∙ c.if-not-is_line.false, search rules)
+pub put_line-requires : goal.put_line-requires
+put_line-requires c = (sym c.is_line.ensures ∙ c.if-not-is_line.false, search rules)
 
 pub returns : goal.returns
 returns c =
-    let g = c.put_line-size.ensures in
+    let g = c.put_line.ensures in
     let e : is_line c.args.line.now ≡ true = sym c.is_line.ensures ∙ c.if-not-is_line.false in
     (tell-octets c.args.line.now _ e g.0, g.1)

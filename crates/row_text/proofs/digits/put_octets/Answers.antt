@@ -8,14 +8,14 @@ use Rattle.row_text.proofs.Composing.{same-puts}
 use Rattle.row_text.proofs.Lines.{putting-none, putting-room, putting-more, putting-all, octet-lines}
 use Rattle.row_text.proofs.digits.put_octets.Goals as goal
 
-pub loop-i-init : goal.loop-i-init
-loop-i-init c = putting-none (λ x. x ∷ []) _ _ _ _
+pub loop-c-init : goal.loop-c-init
+loop-c-init c = putting-none (λ x. x ∷ []) _ _ _ _
 
 pub put_octet-place-requires : goal.put_octet-place-requires
-put_octet-place-requires c = let e = ap length (octet-lines c.args.s.now) in putting-room _ _ _ _ _ _ _ _ c.loop-i.invariant 0 _ refl (search rules) (search rules) (search rules)
+put_octet-place-requires c = let e = ap length (octet-lines c.args.s.now) in putting-room _ _ _ _ _ _ _ _ c.loop-c.invariant 0 _ refl (search rules) (search rules) (search rules)
 
-pub loop-i-preserved : goal.loop-i-preserved
-loop-i-preserved c = putting-more _ _ _ _ _ _ _ _ c.loop-i.invariant 0 _ refl (search rules) (search rules) _ _ (search rules) c.put_octet-place.ensures
+pub loop-c-preserved : goal.loop-c-preserved
+loop-c-preserved c = putting-more _ _ _ _ _ _ _ _ c.loop-c.invariant 0 _ refl (search rules) (search rules) _ _ (search rules) c.put_octet-place.ensures
 
 pub returns : goal.returns
-returns c = same-puts (octet-lines c.args.s.now) (putting-all _ _ _ _ _ _ _ _ c.loop-i.invariant (search rules))
+returns c = same-puts (octet-lines c.args.s.now) (putting-all _ _ _ _ _ _ _ _ c.loop-c.invariant (search rules))

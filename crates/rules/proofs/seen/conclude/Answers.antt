@@ -1,6 +1,9 @@
 -- `rules::seen::conclude` meets its contract. Assumes nothing.
 use mathlib.Core.Path.{◌≡◌, ap, sym, ◌∙◌}
+use mathlib.Core.Bool.{◌&&◌, true, false}
+use lib.Dec.{eqb}
 use native.Mathlib.Omega.{arith}
+use Rattle.std.proofs.lemmas.Bool.Decides.{nat_tests}
 use denote.Enum.Declared.{tag_of}
 use Rattle.codec.specs.Refusals.{finding_says}
 use Rattle.codec.specs.Verdict.{Verdict, first_of}
@@ -32,16 +35,16 @@ returns-then-not-holds c =
     let h = c.if-not-holds.true in
     fine-says c.broken_rule-rule.result _ _ _ c.broken_rule-rule.ensures c.in-Fine.in-Fine-own.keys1 (rw h)
 
-pub returns-then-not-sums : goal.returns-then-not-sums
+pub returns-then-not-f : goal.returns-then-not-f
 unfolding concluded finding_says first_of
-returns-then-not-sums c =
+returns-then-not-f c =
     let h = c.if-not-holds.false in
-    let t = sym c.both-sums.ensures ∙ c.if-not-sums.true in
+    let t : c.args.f.fits && eqb c.args.f.left.0 0 ≡ false = grind (arith, nat_tests) in
     fine-says c.broken_rule-rule.result _ _ _ c.broken_rule-rule.ensures c.in-Fine.in-Fine-own.keys1 (rw (h, t))
 
 pub returns : goal.returns
 unfolding concluded first_of
 returns c =
     let h = c.if-not-holds.false in
-    let t = sym c.both-sums.ensures ∙ c.if-not-sums.false in
+    let t : c.args.f.fits && eqb c.args.f.left.0 0 ≡ true = grind (arith, nat_tests) in
     fine-says c.broken_rule-rule.result _ _ _ c.broken_rule-rule.ensures c.in-Fine.in-Fine-own.keys1 (rw (h, t) c.wrong_body.ensures)

@@ -3,6 +3,8 @@ use Prim.Native.Nat.{ℕ, ◌-◌}
 use mathlib.Core.Path.{ap, ◌∙◌}
 use mathlib.Core.Bool.{◌&&◌}
 use lib.Dec.{leb}
+use native.Mathlib.Omega.{arith}
+use Rattle.std.proofs.lemmas.Bool.Decides.{nat_tests}
 use Rattle.record_octets.specs.Record.{block_in}
 use Rattle.rules.specs.Ranks.{rank, better_rank, better_block}
 use Rattle.rules.specs.Sees.{owned_rules}
@@ -21,6 +23,6 @@ returns c =
     record {
       rule = (f.0 ∙ ap (λ (k : ℕ). better_rank k s.f.rule.rank) r, f.1 ∙ ap (λ (k : ℕ). better_block k s.f.rule.rank s.number.0 s.f.rule.block.0) r);
       body = (g.0 ∙ ap (λ (k : ℕ). better_rank k s.f.body.rank) m, g.1 ∙ ap (λ (k : ℕ). better_block k s.f.body.rank s.number.0 s.f.body.block.0) m);
-      fits = c.both-fits.ensures ∙ ap (λ (k : ℕ). s.f.fits && leb k s.f.left.0) n;
-      left = c.rest-left.ensures ∙ ap (λ (k : ℕ). s.f.left.0 - k) n;
+      fits = (grind (arith, nat_tests)) ∙ ap (λ (k : ℕ). s.f.fits && leb k s.f.left.0) n;
+      left = c.saturating_sub.ensures ∙ ap (λ (k : ℕ). s.f.left.0 - k) n;
     }

@@ -12,8 +12,8 @@ there n m alone e h = let f : m.present ≡ true = sym (ap (λ (x : OptionalNumb
 absent : (n m : OptionalNumber) (alone : ℕ) → n ≡ m → n.present ≡ false → alone ≡ pick m.present m.value alone
 absent n m alone e h = let f : m.present ≡ false = sym (ap (λ (x : OptionalNumber). x.present) e) ∙ h in rw f
 
-pub returns-then-present : goal.returns-then-present
-returns-then-present c = there _ _ c.args.alone.0 c.message_size-size.ensures c.if-present.true
+pub returns-then-size : goal.returns-then-size
+returns-then-size c = there _ _ c.args.alone.0 c.message_size-size.ensures c.if-size.true
 
 pub returns : goal.returns
-returns c = absent _ _ _ c.message_size-size.ensures c.if-present.false
+returns c = absent _ _ _ c.message_size-size.ensures c.if-size.false
