@@ -5,12 +5,12 @@ ghost use Rattle.header.specs.Sizes.{judgement};
 ghost use Rattle.record_octets.specs.Record.{size_of_block, block_in, size_of_blocks_list, blocks_of, size_of_blocks, blocks_in};
 ghost use Rattle.rules.specs.Sees.{Unseen, Sees, concluded};
 
-use crate::order::{Broken, better, broken_rule, wrong_body};
+use crate::order::{Broken, better, broken_rule, refused, wrong_body};
 use crate::rule::{rank_of, whole_rank};
 use crate::sizes::{alone_share, body_rank, share};
 use bits::OctetSize;
 use cells::{entry, load_word};
-use codec::{BlockNumber, Fault, Finding};
+use codec::{BlockFault, BlockNumber, Fault};
 use header::Setting;
 use record_octets::in_blocks;
 
@@ -60,24 +60,27 @@ pub fn see(f: Seen, x: Setting, b: &[u8], number: BlockNumber, alone: OctetSize)
 
 // What all blocks show: the first broken rule; then the header size, the sum of the sizes, the bodies. The sum is
 // right where the data octets were enough and none is left.
-pub fn conclude(f: Seen, holds: bool) -> Finding
+pub fn conclude(f: Seen, holds: bool) -> Result<(), BlockFault>
     ensures { finding_says result ≡ concluded holds f }
 {
-    let rule = broken_rule(f.rule);
-    let Finding::Fine = rule else {
-        return rule;
-    };
+    broken_rule(f.rule)?;
     if !holds {
-        return Finding::Bad(Fault::HeaderSize, BlockNumber(0));
+        return refused(Fault::HeaderSize, BlockNumber(0));
     }
     if !(f.fits && f.left.0 == 0) {
-        return Finding::Bad(Fault::SizeSum, BlockNumber(0));
+        return refused(Fault::SizeSum, BlockNumber(0));
     }
     wrong_body(f.body)
 }
 
 // The entries of a list of blocks in a setting, with so many octets of user data; and whether the header size holds.
-fn see_entries(x: Setting, list: &[u8], held: u32, octets: OctetSize, holds: bool) -> Finding
+fn see_entries(
+    x: Setting,
+    list: &[u8],
+    held: u32,
+    octets: OctetSize,
+    holds: bool,
+) -> Result<(), BlockFault>
     requires { length list.now ≡ size_of_blocks_list }
     ensures { finding_says result ≡ judgement x holds octets.0 (blocks_of list.now held) }
 {
@@ -92,7 +95,7 @@ fn see_entries(x: Setting, list: &[u8], held: u32, octets: OctetSize, holds: boo
 }
 
 // The blocks of a record in a setting, with so many octets of user data; and whether the header size holds.
-pub fn see_blocks(x: Setting, g: &[u8], octets: OctetSize, holds: bool) -> Finding
+pub fn see_blocks(x: Setting, g: &[u8], octets: OctetSize, holds: bool) -> Result<(), BlockFault>
     requires { length g.now ≡ size_of_blocks }
     ensures { finding_says result ≡ judgement x holds octets.0 (blocks_in g.now) }
 {

@@ -8,11 +8,11 @@ use Rattle.rules.proofs.order.wrong_body.Goals as goal
 
 pub returns-in-0 : goal.returns-in-0
 unfolding finding_says told_of
-returns-in-0 c = rw c.in-0.is refl
+returns-in-0 c = rw (c.in-0.is, c.refused.ensures)
 
 pub returns-in-1 : goal.returns-in-1
 unfolding finding_says told_of
-returns-in-1 c = rw c.in-1.is refl
+returns-in-1 c = rw (c.in-1.is, c.refused-in-1.ensures)
 
 pub returns-in_default : goal.returns-in_default
 unfolding finding_says
