@@ -28,19 +28,11 @@ fn check_entries(left: usize, list: &[u8], held: u32) -> Result<(), Fault>
     ensures { check_no result ≡ (addresses left).check (addresses_of list.now held) }
 {
     let count = held as usize;
-    if left + 1 < count {
+    if left + 1 < count || count == 0 {
         return Err(Fault::Count);
     }
-    if count == 0 {
-        return Err(Fault::Count);
-    }
-    let mut i: usize = 0;
-    while i < count {
-        let c = check_address(entry(list, i, in_addresses::ENTRY));
-        let Ok(()) = c else {
-            return c;
-        };
-        i += 1;
+    for i in 0..count {
+        check_address(entry(list, i, in_addresses::ENTRY))?;
     }
     Ok(())
 }

@@ -30,8 +30,7 @@ pub fn check_optional_identity(x: &[u8]) -> Result<(), Fault>
     requires { length x.now ≡ size_of_optional_identity }
     ensures { check_no result ≡ optional_identity.check (optional_identity_in x.now) }
 {
-    let present = load_flag(&x[in_optional_identity::PRESENT..in_optional_identity::IDENTITY]);
-    if present {
+    if load_flag(&x[in_optional_identity::PRESENT..in_optional_identity::IDENTITY]) {
         return check_identity(&x[in_optional_identity::IDENTITY..in_optional_identity::END]);
     }
     Ok(())
@@ -42,10 +41,8 @@ fn check_standard_version(version: u32, x: &[u8]) -> Result<(), Fault>
     requires { length x.now ≡ size_of_optional_number }
     ensures { check_no result ≡ (standard_version version).check (optional_number_in x.now) }
 {
-    let lacking = lacks_standard_version(version);
-    if lacking {
-        let present = load_flag(&x[in_optional_number::PRESENT..in_optional_number::VALUE]);
-        if present {
+    if lacks_standard_version(version) {
+        if load_flag(&x[in_optional_number::PRESENT..in_optional_number::VALUE]) {
             return Err(Fault::Code);
         }
         return Ok(());

@@ -17,8 +17,7 @@ pub fn check_originator(x: &[u8]) -> Result<(), Fault>
     requires { length x.now ≡ size_of_optional_address }
     ensures { check_no result ≡ originator.check (optional_address_in x.now) }
 {
-    let present = load_flag(&x[in_optional_address::PRESENT..in_optional_address::ADDRESS]);
-    if present {
+    if load_flag(&x[in_optional_address::PRESENT..in_optional_address::ADDRESS]) {
         return check_address(&x[in_optional_address::ADDRESS..in_optional_address::END]);
     }
     Ok(())
@@ -29,8 +28,7 @@ pub fn check_recipients(x: &[u8]) -> Result<(), Fault>
     requires { length x.now ≡ size_of_optional_addresses }
     ensures { check_no result ≡ recipients.check (optional_addresses_in x.now) }
 {
-    let present = load_flag(&x[in_optional_addresses::PRESENT..in_optional_addresses::ADDRESSES]);
-    if present {
+    if load_flag(&x[in_optional_addresses::PRESENT..in_optional_addresses::ADDRESSES]) {
         return check_addresses(
             15,
             &x[in_optional_addresses::ADDRESSES..in_optional_addresses::END],
@@ -44,8 +42,7 @@ pub fn check_information(room: usize, x: &[u8]) -> Result<(), Fault>
     requires { (room ≤ 16) × (length x.now ≡ size_of_optional_addresses) }
     ensures { check_no result ≡ (information room).check (optional_addresses_in x.now) }
 {
-    let present = load_flag(&x[in_optional_addresses::PRESENT..in_optional_addresses::ADDRESSES]);
-    if present {
+    if load_flag(&x[in_optional_addresses::PRESENT..in_optional_addresses::ADDRESSES]) {
         if room == 0 {
             return Err(Fault::Count);
         }

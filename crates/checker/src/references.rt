@@ -24,19 +24,11 @@ fn check_entries(list: &[u8], held: u32) -> Result<(), Fault>
     ensures { check_no result ≡ references.check (references_of list.now held) }
 {
     let count = held as usize;
-    if 4 < count {
+    if 4 < count || count == 0 {
         return Err(Fault::Count);
     }
-    if count == 0 {
-        return Err(Fault::Count);
-    }
-    let mut i: usize = 0;
-    while i < count {
-        let c = check_reference(entry(list, i, in_references::ENTRY));
-        let Ok(()) = c else {
-            return c;
-        };
-        i += 1;
+    for i in 0..count {
+        check_reference(entry(list, i, in_references::ENTRY))?;
     }
     Ok(())
 }
@@ -54,10 +46,7 @@ pub fn check_optional_references(x: &[u8]) -> Result<(), Fault>
     requires { length x.now ≡ size_of_optional_references }
     ensures { check_no result ≡ optional_references.check (optional_references_in x.now) }
 {
-    let present = load_flag(
-        &x[in_optional_references::PRESENT..in_optional_references::REFERENCES],
-    );
-    if present {
+    if load_flag(&x[in_optional_references::PRESENT..in_optional_references::REFERENCES]) {
         return check_references(
             &x[in_optional_references::REFERENCES..in_optional_references::END],
         );

@@ -41,8 +41,7 @@ pub fn check_optional_response(x: &[u8]) -> Result<(), Fault>
     requires { length x.now ≡ size_of_optional_response }
     ensures { check_no result ≡ optional_response.check (optional_response_in x.now) }
 {
-    let present = load_flag(&x[in_optional_response::PRESENT..in_optional_response::RESPONSE]);
-    if present {
+    if load_flag(&x[in_optional_response::PRESENT..in_optional_response::RESPONSE]) {
         return check_response(&x[in_optional_response::RESPONSE..in_optional_response::END]);
     }
     Ok(())

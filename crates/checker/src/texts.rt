@@ -16,8 +16,7 @@ pub fn check_optional_text(most: usize, x: &[u8]) -> Result<(), Fault>
     requires { (most ≤ 64) × (length x.now ≡ size_of_optional_text) }
     ensures { check_no result ≡ (optional_text most).check (optional_text_in x.now) }
 {
-    let present = load_flag(&x[in_optional_text::PRESENT..in_optional_text::TEXT]);
-    if present {
+    if load_flag(&x[in_optional_text::PRESENT..in_optional_text::TEXT]) {
         return check_text(most, &x[in_optional_text::TEXT..in_optional_text::END]);
     }
     Ok(())

@@ -14,8 +14,7 @@ pub fn check_optional_stamp(x: &[u8]) -> Result<(), Fault>
     requires { length x.now ≡ size_of_optional_stamp }
     ensures { check_no result ≡ optional_stamp.check (optional_stamp_in x.now) }
 {
-    let present = load_flag(&x[in_optional_stamp::PRESENT..in_optional_stamp::STAMP]);
-    if present {
+    if load_flag(&x[in_optional_stamp::PRESENT..in_optional_stamp::STAMP]) {
         return check_stamp(&x[in_optional_stamp::STAMP..in_optional_stamp::END]);
     }
     Ok(())
@@ -26,8 +25,7 @@ pub fn check_optional_dtg(x: &[u8]) -> Result<(), Fault>
     requires { length x.now ≡ size_of_optional_dtg }
     ensures { check_no result ≡ optional_dtg.check (optional_dtg_in x.now) }
 {
-    let present = load_flag(&x[in_optional_dtg::PRESENT..in_optional_dtg::DTG]);
-    if present {
+    if load_flag(&x[in_optional_dtg::PRESENT..in_optional_dtg::DTG]) {
         return check_dtg(&x[in_optional_dtg::DTG..in_optional_dtg::END]);
     }
     Ok(())

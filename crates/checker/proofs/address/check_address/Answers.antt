@@ -10,4 +10,6 @@ returns-in_err-check_optional c = rw (handed _ c.in_err-check_optional.field-0.0
 
 pub returns : goal.returns
 unfolding address address_in optional_number_in
-returns c = search (checking, c.in_ok-check_optional.ensures) depth 14 fits 6000
+returns c =
+    let p = rw c.load_flag-present.ensures at c.check_unit_name.ensures in
+    search (checking, c.in_ok-check_optional.ensures, p) depth 14 fits 6000

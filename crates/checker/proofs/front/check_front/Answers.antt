@@ -22,4 +22,6 @@ returns-in_err-check_recipients c = rw (handed _ c.in_err-check_recipients.field
 
 pub returns : goal.returns
 unfolding front front_in
-returns c = search (checking, c.in_ok-check_word.ensures, c.in_ok-check_optional.ensures, c.in_ok-check_originator.ensures, c.in_ok-check_recipients.ensures) depth 14 fits 6000
+returns c =
+    let i = rw c.room_behind-room.ensures at c.check_information.ensures in
+    search (checking, i, c.in_ok-check_word.ensures, c.in_ok-check_optional.ensures, c.in_ok-check_originator.ensures, c.in_ok-check_recipients.ensures) depth 14 fits 6000

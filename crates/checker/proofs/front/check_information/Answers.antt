@@ -28,12 +28,12 @@ absent (suc n) x e = rw e
 
 pub returns-then-room-eq0 : goal.returns-then-room-eq0
 unfolding check_no optional_addresses_in
-returns-then-room-eq0 c = none_left _ (optional_addresses_in c.args.x.now) (sym c.load_flag-present.ensures ∙ c.if-present.true) c.if-room-eq0.true
+returns-then-room-eq0 c = none_left _ (optional_addresses_in c.args.x.now) (sym c.load_flag.ensures ∙ c.if-load_flag.true) c.if-room-eq0.true
 
-pub returns-then-present : goal.returns-then-present
+pub returns-then-load_flag : goal.returns-then-load_flag
 unfolding optional_addresses_in
-returns-then-present c = some_left _ _ (optional_addresses_in c.args.x.now) (sym c.load_flag-present.ensures ∙ c.if-present.true) c.if-room-eq0.false c.check_addresses.ensures
+returns-then-load_flag c = some_left _ _ (optional_addresses_in c.args.x.now) (sym c.load_flag.ensures ∙ c.if-load_flag.true) c.if-room-eq0.false c.check_addresses.ensures
 
 pub returns : goal.returns
 unfolding check_no optional_addresses_in
-returns c = absent _ (optional_addresses_in c.args.x.now) (sym c.load_flag-present.ensures ∙ c.if-present.false)
+returns c = absent _ (optional_addresses_in c.args.x.now) (sym c.load_flag.ensures ∙ c.if-load_flag.false)

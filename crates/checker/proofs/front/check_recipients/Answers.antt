@@ -6,10 +6,10 @@ use Rattle.header.specs.Table.{recipients}
 use Rattle.record_octets.specs.Record.{optional_addresses_in}
 use Rattle.checker.proofs.front.check_recipients.Goals as goal
 
-pub returns-then-present : goal.returns-then-present
+pub returns-then-load_flag : goal.returns-then-load_flag
 unfolding recipients check_no optional_addresses_in
-returns-then-present c = let e = sym c.load_flag-present.ensures ∙ c.if-present.true in search checking depth 12
+returns-then-load_flag c = let e = sym c.load_flag.ensures ∙ c.if-load_flag.true in search checking depth 12
 
 pub returns : goal.returns
 unfolding recipients check_no optional_addresses_in
-returns c = let e = sym c.load_flag-present.ensures ∙ c.if-present.false in search checking depth 12
+returns c = let e = sym c.load_flag.ensures ∙ c.if-load_flag.false in search checking depth 12

@@ -6,10 +6,10 @@ use Rattle.header.specs.Table.{optional_dtg}
 use Rattle.record_octets.specs.Record.{optional_dtg_in}
 use Rattle.checker.proofs.times.check_optional_dtg.Goals as goal
 
-pub returns-then-present : goal.returns-then-present
+pub returns-then-load_flag : goal.returns-then-load_flag
 unfolding optional_dtg check_no optional_dtg_in
-returns-then-present c = let e = sym c.load_flag-present.ensures ∙ c.if-present.true in search checking depth 12
+returns-then-load_flag c = let e = sym c.load_flag.ensures ∙ c.if-load_flag.true in search checking depth 12
 
 pub returns : goal.returns
 unfolding optional_dtg check_no optional_dtg_in
-returns c = let e = sym c.load_flag-present.ensures ∙ c.if-present.false in search checking depth 12
+returns c = let e = sym c.load_flag.ensures ∙ c.if-load_flag.false in search checking depth 12
