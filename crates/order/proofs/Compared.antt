@@ -1,16 +1,16 @@
 -- The comparisons of std, as crate `calls` has them. Assumes nothing.
-use Prim.Native.Nat.{ℕ, ◌<◌}
-use mathlib.Core.Path.{◌≡◌, refl, sym, ◌∙◌}
+use Prim.Native.Nat.{ℕ, ◌<◌, Ordering}
+use mathlib.Core.Path.{◌≡◌, refl, ap, sym, ◌∙◌}
 use mathlib.Core.Bool.{Bool, true, false}
 use mathlib.Core.List.{List, [], ◌∷◌}
 use Rattle.std.specs.declared.cmp.Ordering.{Ordering as RustOrdering}
 use Rattle.std.specs.declared.cmp.Ordering.TheVariants.{Less, Equal, Greater}
-use Rattle.std.specs.Ordering.{nat_cmp, ordering_then, MatchOrdering}
+use Rattle.std.specs.Ordering.{nat_cmp, ordering_then, MatchOrdering, is_lt}
 use Rattle.std.specs.Cmp.{ranks}
 use Rattle.std.specs.Cmp.Lexicographic.{slice_cmp}
 use Rattle.std.specs.Option.{option_cmp}
 use Rattle.std.specs.Bool.{then_some}
-use Rattle.calls.specs.Order.{then, by_number, list, option}
+use Rattle.calls.specs.Order.{choose, then, by_number, list, option}
 use Rattle.calls.proofs.Orders.{lt→compare, gt→compare, eq→compare}
 use Rattle.order.specs.Values.{comparison_of, option_of}
 
@@ -42,3 +42,16 @@ options true true x y = numbers x y
 options true false x y = refl
 options false true x y = refl
 options false false x y = refl
+
+-- the second comparison only where the first says "the same"
+pub then-with : (o r : RustOrdering) (q : Ordering) (P : Type 0) → MatchOrdering o (r ≡ Less) P (r ≡ Greater) → (P → comparison_of r ≡ q) → comparison_of r ≡ then (comparison_of o) q
+unfolding comparison_of
+then-with Less r q P m h = ap comparison_of m
+then-with Equal r q P m h = h m
+then-with Greater r q P m h = ap comparison_of m
+
+pub less-is : (o : RustOrdering) → is_lt o ≡ choose (comparison_of o) true false false
+unfolding comparison_of
+less-is Less = refl
+less-is Equal = refl
+less-is Greater = refl
