@@ -55,10 +55,7 @@ fn look(rows: &[u8], n: usize, key: &[u8]) -> Option<Position>
     let mut last = None;
     for i in 0..n {
         let row = entry(rows, i, in_table::ENTRY);
-        if !row_fine(row) {
-            return None;
-        }
-        if !row_follows(last, row) {
+        if !(row_fine(row) && row_follows(last, row)) {
             return None;
         }
         place = further(place, i, key, row);

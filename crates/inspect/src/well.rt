@@ -113,10 +113,7 @@ fn recipients_right(asked: Requests, list: &[u8], count: u32) -> bool
     let mut last = None;
     for i in 0..count as usize {
         let x = entry(list, i, in_row::ENTRY);
-        if !recipient_fine(asked, x) {
-            return false;
-        }
-        if !recipient_follows(last, x) {
+        if !(recipient_fine(asked, x) && recipient_follows(last, x)) {
             return false;
         }
         last = Some(x);
