@@ -1,6 +1,11 @@
 -- Things of w octets each that have to pass a test and to be in order, looked at from the left where they lie: the list that the octets hold. Assumes nothing.
+use denote.Ref.{Bor}
+use borrow.Author.Tests.{eq-eqb, ne_eqb}
+use Rattle.std.specs.Prelude.{IfSome, MatchOption}
+use Rattle.std.specs.declared.option.Option.{Option}
+use Rattle.std.specs.declared.option.Option.TheVariants.{None, Some}
 use Prim.Native.Nat.{ℕ, ◌+◌, ◌-◌, ◌*◌, ◌<◌, ◌≤◌, Ordering}
-use mathlib.Core.Path.{◌≡◌, ap, ap₂, sym, subst, ◌∙◌}
+use mathlib.Core.Path.{◌≡◌, refl, ap, ap₂, sym, subst, ◌∙◌}
 use mathlib.Core.Bool.{Bool, true, false, ◌&&◌, ◌||◌}
 use mathlib.Core.List.{List, [], map}
 use lib.ListN.{length, take, get_or}
@@ -11,10 +16,22 @@ use Rattle.cells.specs.Cells.{part, many}
 use Rattle.cells.proofs.Lists.{many-count, many-entry}
 use Rattle.calls.specs.Order.{choose}
 use Rattle.table.specs.WellFormed.{increasing}
-use Rattle.table.specs.declared.Position.{Position}
+use Rattle.table.specs.Search.{Position}
 use Rattle.inspect.specs.Places.{further}
 use Rattle.inspect.proofs.Tests.{Lined, lined-bad, lined-off, lined-more, lined-all}
 use Rattle.inspect.proofs.Sought.{Sought, sought-more}
+
+-- the one before the i-th of w octets each, as it was lent; none before the first
+module _ (w : ℕ) (s : List ℕ) where
+  abbrev pub Before : ℕ → Option (Bor (List ℕ)) → Type 0
+  Before i last = MatchOption last (i ≡ 0) (λ y. (0 < i) × (length y.now ≡ w) × (y.now ≡ part ((i - 1) * w) w s))
+
+  pub before-next : (i : ℕ) (y : Bor (List ℕ)) → y.now ≡ part (i * w) w s → length y.now ≡ w → Before (i + 1) (Some y)
+  before-next i y e l = let j : i ≡ i + 1 - 1 = omega arith in (omega arith, l, e ∙ ap (λ (k : ℕ). part (k * w) w s) j)
+
+  pub before-long : (i : ℕ) (last : Option (Bor (List ℕ))) → Before i last → IfSome last (λ y. length y.now ≡ w)
+  before-long i None b = tt
+  before-long i (Some y) b = b.1
 
 module _ {A K : Type 0} (g : List ℕ → A) (w most : ℕ) (f : A → Bool) (cmp : K → K → Ordering) (h : A → K) (n : ℕ) (s : List ℕ) (few : n ≤ most) where
   abbrev there : List A
@@ -38,16 +55,17 @@ module _ {A K : Type 0} (g : List ℕ → A) (w most : ℕ) (f : A → Bool) (cm
       pub entry-bad : f (g x) ≡ false → false ≡ all f (take n there) && increasing cmp (map h (take n there))
       entry-bad e = lined-bad f cmp h n there i p fits (g []) k (ap f (sym is) ∙ e)
 
-      -- and the one before it
-      module _ (j : ℕ) (one : j ≡ i - 1) (y : List ℕ) (last : y ≡ part (j * w) w s) where
-        abbrev follows : Bool
-        follows = eqb i 0 || choose (cmp (h (g y)) (h (g x))) true false false
+      -- and what was found of it and the one before it
+      module _ (last : Option (Bor (List ℕ))) (before : Before w s i last) (r : Bool) (told : MatchOption last (r ≡ true) (λ y. r ≡ choose (cmp (h (g y.now)) (h (g x))) true false false)) where
+        follows : (o : Option (Bor (List ℕ))) → Before w s i o → MatchOption o (r ≡ true) (λ y. r ≡ choose (cmp (h (g y.now)) (h (g x))) true false false)
+            → (eqb i 0 || choose (cmp (h (get_or there (i - 1) (g []))) (h (get_or there i (g [])))) true false false) ≡ r
+        follows None b t = rw (eq-eqb i 0 b) (sym t)
+        follows (Some y) b t =
+            rw (ne_eqb i 0 (λ z. let q : 0 < i = b.0 in absurd (omega arith)))
+            (ap₂ (λ (u v : A). choose (cmp (h u) (h v)) true false false) (sym (many-entry g w most (i - 1) s y.now (g []) b.2 (omega (arith, k, few)))) (sym is) ∙ sym t)
 
-        same : (b : Bool) → follows ≡ b → (eqb i 0 || choose (cmp (h (get_or there j (g []))) (h (get_or there i (g [])))) true false false) ≡ b
-        same b q = ap₂ (λ (u v : A). eqb i 0 || choose (cmp (h u) (h v)) true false false) (sym (many-entry g w most j s y (g []) last (omega (arith, k, few, one)))) (sym is) ∙ q
+        pub entry-off : r ≡ false → false ≡ all f (take n there) && increasing cmp (map h (take n there))
+        entry-off q = lined-off f cmp h n there i p fits (g []) k (i - 1) refl (follows last before told ∙ q)
 
-        pub entry-off : follows ≡ false → false ≡ all f (take n there) && increasing cmp (map h (take n there))
-        entry-off q = lined-off f cmp h n there i p fits (g []) k j one (same false q)
-
-        pub entry_more : f (g x) ≡ true → follows ≡ true → Lined f cmp h n there (i + 1)
-        entry_more t q = lined-more f cmp h n there i p fits (g []) k j one (ap f (sym is) ∙ t) (same true q)
+        pub entry_more : f (g x) ≡ true → r ≡ true → Lined f cmp h n there (i + 1)
+        entry_more t q = lined-more f cmp h n there i p fits (g []) k (i - 1) refl (ap f (sym is) ∙ t) (follows last before told ∙ q)

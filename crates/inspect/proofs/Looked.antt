@@ -1,7 +1,7 @@
 -- What one look at the rows of a table tells of it. Assumes nothing.
 use Prim.Native.Nat.{ℕ, ◌<◌, ◌≤◌}
-use mathlib.Core.Path.{◌≡◌, sym, ◌∙◌}
-use mathlib.Core.Bool.{Bool, true, false, ◌&&◌, false≢true}
+use mathlib.Core.Path.{◌≡◌}
+use mathlib.Core.Bool.{Bool, false, ◌&&◌}
 use mathlib.Core.List.{map}
 use native.Mathlib.Omega.{arith}
 use lib.ListN.{length}
@@ -12,13 +12,9 @@ use Rattle.order.specs.declared.Key.{Key}
 use Rattle.table.specs.Rows.{used_rows}
 use Rattle.table.specs.Search.{Placed}
 use Rattle.table.specs.WellFormed.{row_fine, increasing, well_formed}
-use Rattle.table.specs.declared.Position.{Position}
+use Rattle.table.specs.Search.{Position}
 use Rattle.table.specs.declared.Table.{Table}
 use Rattle.inspect.proofs.Sought.{Sought, sought-held, sought-all}
-
--- of a table that is not well formed nothing more is told
-pub not-well : (t : Table) (x : Bool) → x ≡ false → false ≡ well_formed t → {R : Type 0} → (x ≡ well_formed t) × (well_formed t ≡ true → R)
-not-well t x e f = (e ∙ f, λ w. absurd (false≢true (f ∙ w)))
 
 pub over : (t : Table) (n : ℕ) → n ≡ t.count → 32 < n → false ≡ well_formed t
 unfolding well_formed

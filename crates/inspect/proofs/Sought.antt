@@ -1,4 +1,5 @@
 -- The place of a key, gathered while every row is looked at: still open, or found. Assumes nothing.
+use Rattle.std.specs.Prelude.{Ok, Err}
 use Prim.Native.Nat.Ordering.{eq}
 use Prim.Native.Nat.Ordering.{gt}
 use Prim.Native.Nat.Ordering.{lt}
@@ -11,7 +12,7 @@ use lib.Dec.{ltb}
 use borrow.Author.Tests.{ltb-true, ltb-false}
 use native.Mathlib.Omega.{arith}
 use Rattle.table.specs.Search.{Stopped}
-use Rattle.table.specs.declared.Position.{Position}
+use Rattle.table.specs.Search.{Position, place_of, is_held}
 use Rattle.table.proofs.Seeking.{Seeking, seeking-none, seeking-more, seeking-end, seeking-held, seeking-free, no_way}
 use Rattle.inspect.specs.Places.{further}
 
@@ -19,41 +20,41 @@ module _ {A K : Type 0} (cmp : K → K → Ordering) (h : A → K) (k : K) (n : 
   -- behind the first i cells: the keys of all of them come before k, or the search has stopped among them
   pub record Sought (i : ℕ) (p : Position) : Type 0 where
     pub top : i ≤ n
-    pub within : p.at ≤ i
-    pub seeking : Seeking cmp h k n l p.at
-    pub going : p.at ≡ i → p.held ≡ false
-    pub shut : p.at < i → Stopped cmp k (map h (take n l)) p.at p.held
+    pub within : place_of p ≤ i
+    pub seeking : Seeking cmp h k n l (place_of p)
+    pub going : place_of p ≡ i → is_held p ≡ false
+    pub shut : place_of p < i → Stopped cmp k (map h (take n l)) (place_of p) (is_held p)
 
-  pub sought-none : Sought 0 (record { at = 0; held = false })
+  pub sought-none : Sought 0 (Err 0)
   sought-none = record { top = omega arith; within = omega arith; seeking = seeking-none cmp h k n l; going = λ e. refl; shut = λ q. absurd (omega arith) }
 
   -- a key that is held is held by one of them
-  pub sought-held : (i : ℕ) (p : Position) → Sought i p → p.held ≡ true → p.at < i
-  sought-held i p s e = go (ltb p.at i) refl
+  pub sought-held : (i : ℕ) (p : Position) → Sought i p → is_held p ≡ true → place_of p < i
+  sought-held i p s e = go (ltb (place_of p) i) refl
     where
-      go : (b : Bool) → ltb p.at i ≡ b → p.at < i
-      go true t = ltb-true p.at i t
+      go : (b : Bool) → ltb (place_of p) i ≡ b → place_of p < i
+      go true t = ltb-true (place_of p) i t
       go false t =
-          let w : p.at ≤ i = s.within in
-          let m : i ≤ p.at = ltb-false p.at i t in
+          let w : place_of p ≤ i = s.within in
+          let m : i ≤ place_of p = ltb-false (place_of p) i t in
           no_way (sym (s.going (omega arith)) ∙ e)
 
   module _ (fits : n ≤ length l) where
-    pub sought-all : (i : ℕ) (p : Position) → Sought i p → n ≤ i → Stopped cmp k (map h (take n l)) p.at p.held
-    sought-all i p s e = go (ltb p.at i) refl
+    pub sought-all : (i : ℕ) (p : Position) → Sought i p → n ≤ i → Stopped cmp k (map h (take n l)) (place_of p) (is_held p)
+    sought-all i p s e = go (ltb (place_of p) i) refl
       where
-        go : (b : Bool) → ltb p.at i ≡ b → Stopped cmp k (map h (take n l)) p.at p.held
-        go true t = s.shut (ltb-true p.at i t)
+        go : (b : Bool) → ltb (place_of p) i ≡ b → Stopped cmp k (map h (take n l)) (place_of p) (is_held p)
+        go true t = s.shut (ltb-true (place_of p) i t)
         go false t =
-            let w : p.at ≤ i = s.within in
-            let m : i ≤ p.at = ltb-false p.at i t in
-            subst (Stopped cmp k (map h (take n l)) p.at) (sym (s.going (omega arith))) (seeking-end cmp h k n l p.at s.seeking fits (omega arith))
+            let w : place_of p ≤ i = s.within in
+            let m : i ≤ place_of p = ltb-false (place_of p) i t in
+            subst (Stopped cmp k (map h (take n l)) (place_of p)) (sym (s.going (omega arith))) (seeking-end cmp h k n l (place_of p) s.seeking fits (omega arith))
 
     module _ (i : ℕ) (p : Position) (s : Sought i p) (d : A) (m : i < n) where
-      kept : p.at < i → Sought (i + 1) p
+      kept : place_of p < i → Sought (i + 1) p
       kept q = record { top = omega arith; within = omega arith; seeking = s.seeking; going = λ e. absurd (omega arith); shut = λ z. s.shut q }
 
-      module _ (e : p.at ≡ i) where
+      module _ (e : place_of p ≡ i) where
         here : Seeking cmp h k n l i
         here = subst (Seeking cmp h k n l) e s.seeking
 
@@ -65,21 +66,21 @@ module _ {A K : Type 0} (cmp : K → K → Ordering) (h : A → K) (k : K) (n : 
               within = omega arith;
               seeking = s.seeking;
               going = λ z. absurd (omega arith);
-              shut = λ z. subst (λ (x : ℕ). Stopped cmp k (map h (take n l)) x p.held) (sym e) (subst (Stopped cmp k (map h (take n l)) i) (sym (s.going e)) f);
+              shut = λ z. subst (λ (x : ℕ). Stopped cmp k (map h (take n l)) x (is_held p)) (sym e) (subst (Stopped cmp k (map h (take n l)) i) (sym (s.going e)) f);
             }
 
-        found : cmp k (h (get_or l i d)) ≡ eq → Sought (i + 1) (record { at = i; held = true })
+        found : cmp k (h (get_or l i d)) ≡ eq → Sought (i + 1) (Ok i)
         found c = record { top = omega arith; within = omega arith; seeking = here; going = λ z. absurd (omega arith); shut = λ z. seeking-held cmp h k n l i here fits d m c }
 
-        passed : cmp k (h (get_or l i d)) ≡ gt → Sought (i + 1) (record { at = i + 1; held = false })
+        passed : cmp k (h (get_or l i d)) ≡ gt → Sought (i + 1) (Err (i + 1))
         passed c = record { top = omega arith; within = omega arith; seeking = seeking-more cmp h k n l i here fits d m c; going = λ z. refl; shut = λ z. absurd (omega arith) }
 
       pub sought-more : (c : Ordering) → cmp k (h (get_or l i d)) ≡ c → Sought (i + 1) (further i c p)
       unfolding further
-      sought-more c e = go (ltb p.at i) refl c e
+      sought-more c e = go (ltb (place_of p) i) refl c e
         where
-          go : (b : Bool) → ltb p.at i ≡ b → (c : Ordering) → cmp k (h (get_or l i d)) ≡ c → Sought (i + 1) (further i c p)
-          go true t c z = rw t (kept (ltb-true p.at i t))
-          go false t lt z = let w : p.at ≤ i = s.within in let m : i ≤ p.at = ltb-false p.at i t in rw t (stays (omega arith) z)
-          go false t eq z = let w : p.at ≤ i = s.within in let m : i ≤ p.at = ltb-false p.at i t in rw t (found (omega arith) z)
-          go false t gt z = let w : p.at ≤ i = s.within in let m : i ≤ p.at = ltb-false p.at i t in rw t (passed (omega arith) z)
+          go : (b : Bool) → ltb (place_of p) i ≡ b → (c : Ordering) → cmp k (h (get_or l i d)) ≡ c → Sought (i + 1) (further i c p)
+          go true t c z = rw t (kept (ltb-true (place_of p) i t))
+          go false t lt z = let w : place_of p ≤ i = s.within in let m : i ≤ place_of p = ltb-false (place_of p) i t in rw t (stays (omega arith) z)
+          go false t eq z = let w : place_of p ≤ i = s.within in let m : i ≤ place_of p = ltb-false (place_of p) i t in rw t (found (omega arith) z)
+          go false t gt z = let w : place_of p ≤ i = s.within in let m : i ≤ place_of p = ltb-false (place_of p) i t in rw t (passed (omega arith) z)

@@ -9,7 +9,8 @@ use checker::address::check_address;
 use checker::dtg::check_stamp;
 use codec::{Check, earlier};
 use leaves::moment::load_stamp;
-use order::{Comparison, compare_addresses, compare_stamps};
+use order::{compare_addresses, compare_stamps};
+use std::cmp::Ordering;
 use table_octets::in_key;
 
 // The first refusal of a key.
@@ -23,7 +24,7 @@ pub fn check_key(k: &[u8]) -> Check
 }
 
 // Stamps are 32 octets, and are loaded.
-fn compare_moments(a: &[u8], b: &[u8]) -> Comparison
+fn compare_moments(a: &[u8], b: &[u8]) -> Ordering
     requires { (length a.now ≡ size_of_stamp) × (length b.now ≡ size_of_stamp) }
     ensures { comparison_of result ≡ by_moment (moment_of (stamp_in a.now)) (moment_of (stamp_in b.now)) }
 {
@@ -31,20 +32,18 @@ fn compare_moments(a: &[u8], b: &[u8]) -> Comparison
 }
 
 // By the originator. Only where it is the same are the stamps looked at.
-pub fn compare_keys(a: &[u8], b: &[u8]) -> Comparison
+pub fn compare_keys(a: &[u8], b: &[u8]) -> Ordering
     requires { (length a.now ≡ size_of_key) × (length b.now ≡ size_of_key) }
     ensures { comparison_of result ≡ by_key (key_of (key_in a.now)) (key_of (key_in b.now)) }
 {
-    let c = compare_addresses(
+    let addresses = compare_addresses(
         &a[in_key::ADDRESS..in_key::STAMP],
         &b[in_key::ADDRESS..in_key::STAMP],
     );
-    match c {
-        Comparison::Less => Comparison::Less,
-        Comparison::Same => compare_moments(
+    addresses.then_with(|| {
+        compare_moments(
             &a[in_key::STAMP..in_key::END],
             &b[in_key::STAMP..in_key::END],
-        ),
-        Comparison::Greater => Comparison::Greater,
-    }
+        )
+    })
 }

@@ -1,4 +1,4 @@
 pub mod Orders
 pub mod Requests
 pub mod Calls
-mod Texts
+pub mod Compared

@@ -6,6 +6,8 @@ use Prim.Native.Nat.Ordering.{eq}
 use Prim.Native.Nat.Ordering.{gt}
 use Prim.Native.Nat.Ordering.{lt}
 use Prim.Native.Nat.{ℕ, Ordering}
+use Rattle.std.specs.declared.cmp.Ordering.{Ordering as RustOrdering}
+use Rattle.std.specs.declared.cmp.Ordering.TheVariants.{Less, Equal, Greater}
 use Rattle.codec.specs.Codec.{first}
 use Rattle.optional.specs.declared.OptionalNumber.{OptionalNumber}
 use Rattle.text.specs.Texts.{chars_of}
@@ -14,15 +16,12 @@ use Rattle.header.specs.declared.Address.{Address as DeclaredAddress}
 use Rattle.header.specs.declared.Dtg.{Dtg}
 use Rattle.header.specs.declared.Stamp.{Stamp}
 use Rattle.calls.specs.Order.{by_number, ◌lex◌, list, ◌or◌, option, pull}
-use Rattle.order.specs.declared.Comparison.{Comparison}
-use Rattle.order.specs.declared.Comparison.TheVariants.{Less, Same, Greater}
 use Rattle.order.specs.declared.Key.{Key as DeclaredKey}
-use Rattle.order.specs.declared.Three.{Three}
 
 -- what a comparison of `src/` answers
-unfoldable pub comparison_of : Comparison → Ordering
+unfoldable pub comparison_of : RustOrdering → Ordering
 comparison_of Less = lt
-comparison_of Same = eq
+comparison_of Equal = eq
 comparison_of Greater = gt
 
 -- an originator, a recipient or an answerer: a URN or a unit name
@@ -70,9 +69,6 @@ by_key = pull parts (by_address lex by_moment)
 
 unfoldable pub option_of : OptionalNumber → Option ℕ
 option_of x = cond x.present (some x.value) none
-
-abbrev pub three_of : Three → List ℕ
-three_of x = x.0 ∷ x.1 ∷ x.2 ∷ []
 
 abbrev pub dtg_of : Dtg → List ℕ
 dtg_of d = d.date.year ∷ d.date.month ∷ d.date.day ∷ d.time.hour ∷ d.time.minute ∷ d.time.second ∷ []

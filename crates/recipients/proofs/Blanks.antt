@@ -1,5 +1,4 @@
 -- Recipients without codes: what putting one in makes of them, and a new row's octets. Assumes nothing.
-use Prim.Native.Nat.Ordering.{eq}
 use Prim.Native.Nat.{ℕ, zero, suc, ◌+◌, ◌-◌, ◌*◌, ◌<◌, ◌≤◌}
 use mathlib.Core.Path.{◌≡◌, refl, ap, sym, ◌∙◌}
 use mathlib.Core.Bool.{Bool, true, false}

@@ -3,7 +3,7 @@ use Prim.Native.Nat.Ordering.{eq}
 use Prim.Native.Nat.Ordering.{gt}
 use Prim.Native.Nat.Ordering.{lt}
 use Prim.Native.Nat.{ℕ, ◌+◌, ◌*◌, ◌<◌, ◌≤◌, Ordering}
-use mathlib.Core.Path.{◌≡◌, ap, sym, ◌∙◌}
+use mathlib.Core.Path.{◌≡◌, ap, sym, subst, ◌∙◌}
 use mathlib.Core.Bool.{true, false}
 use mathlib.Core.List.{List, [], map}
 use lib.ListN.{length, take, get_or}
@@ -28,8 +28,8 @@ module _ (s : List ℕ) (n : ℕ) (few : n ≤ 16) (w : Address) (i : ℕ) where
     fits : n ≤ length (many recipient_in 92 16 s)
     fits = let e : length (many recipient_in 92 16 s) ≡ 16 = many-count recipient_in 92 16 s in omega arith
 
-    pub ended : n ≤ i → Stopped by_address w there i false
-    ended h = seeking-end _ _ _ _ _ i p fits h
+    pub ended : n ≤ i → Stopped by_address w there n false
+    ended h = let q : i ≤ n = p.within in let e : i ≡ n = omega arith in subst (λ (j : ℕ). Stopped by_address w there j false) e (seeking-end _ _ _ _ _ i p fits h)
 
     module _ (h : i < n) (x : List ℕ) (here : x ≡ part (i * 92) 92 s) (o : Ordering) (told : o ≡ by_address w (address_of (address_in (part 0 80 x)))) where
       at : by_address w (address_of (get_or (many recipient_in 92 16 s) i (recipient_in [])).address) ≡ o

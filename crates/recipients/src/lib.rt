@@ -9,7 +9,7 @@ ghost use Rattle.record_octets.specs.Record.{size_of_address, address_in, size_o
 ghost use Rattle.calls.specs.Keyed.{put};
 ghost use Rattle.order.specs.Values.{Address, address_of, by_address};
 ghost use Rattle.order.specs.Requests.{Mark, blank};
-ghost use Rattle.table.specs.Search.{Stopped};
+ghost use Rattle.table.specs.Search.{Stopped, place_of, is_held};
 ghost use Rattle.table_octets.specs.Table.{size_of_key, size_of_recipient, recipient_in, recipient_octets, size_of_row, size_of_row_recipients};
 ghost use Rattle.table_octets.specs.Typed.{TypedRecipient};
 ghost use Rattle.table_octets.specs.Image.{recipient_image, recipients_image};
@@ -18,33 +18,28 @@ ghost use Rattle.recipients.specs.Holds.{Holds, blanks_of};
 use cells::{clear, copy, entry, load_word, move_up, store_flag, store_word};
 use header::Requests;
 use images::put_address;
-use order::{Comparison, compare_addresses};
+use order::compare_addresses;
 use record_octets::{in_addresses, in_requests};
+use std::cmp::Ordering;
 use table::Position;
 use table_octets::{in_recipient, in_row};
 
 // The first recipient whose address is not before the one that is sought.
 pub fn find_recipient(s: &[u8], count: u32, a: &[u8]) -> Position
     requires { (length s.now ≡ size_of_row_recipients) × (count ≤ 16) × (length a.now ≡ size_of_address) }
-    ensures { (result.at ≤ count) × (result.held ≡ true → result.at < count) × Stopped by_address (address_of (address_in a.now)) (map (λ x. address_of x.address) (take count (many recipient_in size_of_recipient 16 s.now))) result.at result.held }
+    ensures { (place_of result ≤ count) × (is_held result ≡ true → place_of result < count) × Stopped by_address (address_of (address_in a.now)) (map (λ x. address_of x.address) (take count (many recipient_in size_of_recipient 16 s.now))) (place_of result) (is_held result) }
 {
     let n = count as usize;
-    let mut i: usize = 0;
-    while i < n {
+    for i in 0..n {
         let x = entry(s, i, in_recipient::END);
         let c = compare_addresses(a, &x[in_recipient::ADDRESS..in_recipient::MACHINE]);
         match c {
-            Comparison::Less => {
-                return Position { at: i, held: false };
-            }
-            Comparison::Same => {
-                return Position { at: i, held: true };
-            }
-            Comparison::Greater => {}
+            Ordering::Less => return Err(i),
+            Ordering::Equal => return Ok(i),
+            Ordering::Greater => {}
         }
-        i += 1;
     }
-    Position { at: i, held: false }
+    Err(n)
 }
 
 // A recipient without codes.
@@ -72,14 +67,13 @@ fn put_recipient(s: &mut [u8], count: u32, a: &[u8]) -> u32
     requires { (length s.old ≡ size_of_row_recipients) × (length a.now ≡ size_of_address) × (count < 16) }
     ensures { (length s.new ≡ size_of_row_recipients) × (result ≤ count + 1) × ((l : List (Address × Mark)) → Holds l count s.old → Holds (put by_address (address_of (address_in a.now)) (some blank) l) result s.new) }
 {
-    let p = find_recipient(s, count, a);
-    let held = p.held;
-    let at = p.at;
-    if held {
-        return count;
+    match find_recipient(s, count, a) {
+        Ok(_) => count,
+        Err(at) => {
+            insert_blank(s, count as usize, at, a);
+            count + 1
+        }
     }
-    insert_blank(s, count as usize, at, a);
-    count + 1
 }
 
 // The recipients of a legal list, put in from the last to the first, as the rows' theory sorts. How many there are: an address that the
@@ -91,10 +85,8 @@ fn fill(s: &mut [u8], to: &[u8]) -> u32
     clear(s);
     let list = &to[in_addresses::LIST..in_addresses::COUNT];
     let count = load_word(&to[in_addresses::COUNT..in_addresses::END]);
-    let mut i = count as usize;
     let mut n: u32 = 0;
-    while 0 < i {
-        i -= 1;
+    for i in (0..count as usize).rev() {
         let a = entry(list, i, in_addresses::ENTRY);
         n = put_recipient(s, n, a);
     }

@@ -3,11 +3,10 @@ use Prim.Native.Nat.Ordering.{eq}
 use Prim.Native.Nat.Ordering.{gt}
 use Prim.Native.Nat.Ordering.{lt}
 use Prim.Native.Nat.{ℕ, ◌<◌, ◌≤◌, Ordering}
-use Rattle.std.specs.Prelude.{◌≡◌, Bool, true, false, List, map, length, get_or}
+use Rattle.std.specs.Prelude.{◌≡◌, Bool, true, false, List, map, length, get_or, Result, Ok, Err}
 use Rattle.order.specs.Values.{Address, address_of, Key, key_of, by_key}
 use Rattle.order.specs.declared.Key.{Key as DeclaredKey}
 use Rattle.table.specs.Rows.{used_recipients, used_rows}
-use Rattle.table.specs.declared.Position.{Position}
 use Rattle.table.specs.declared.Row.{Row}
 use Rattle.table.specs.declared.Table.{Table}
 
@@ -28,6 +27,18 @@ keys_of t = map (λ r. key_of r.key) (used_rows t)
 abbrev pub addresses_of : Row → List Address
 addresses_of r = map (λ x. address_of x.address) (used_recipients r)
 
+-- what a search answers: the place of what is held, or the place where it would stand
+abbrev pub Position : Type 0
+Position = Result ℕ ℕ
+
+abbrev pub place_of : Position → ℕ
+place_of (Ok i) = i
+place_of (Err i) = i
+
+abbrev pub is_held : Position → Bool
+is_held (Ok i) = true
+is_held (Err i) = false
+
 -- where the row with a key stands in a table, or would stand
 abbrev pub Placed : Table → DeclaredKey → Position → Type 0
-Placed t k p = (p.at ≤ t.count) × (p.held ≡ true → p.at < t.count) × Stopped by_key (key_of k) (keys_of t) p.at p.held
+Placed t k p = (place_of p ≤ t.count) × (is_held p ≡ true → place_of p < t.count) × Stopped by_key (key_of k) (keys_of t) (place_of p) (is_held p)

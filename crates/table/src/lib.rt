@@ -34,9 +34,5 @@ pub struct Table {
     pub count: u32,
 }
 
-// Where a row or a recipient stands, or where it would stand while it is not held.
-#[derive(Clone, Copy)]
-pub struct Position {
-    pub at: usize,
-    pub held: bool,
-}
+// Where a row or a recipient stands, or where it would stand while it is not held, as a binary search answers.
+pub type Position = Result<usize, usize>;

@@ -5,18 +5,18 @@ use Rattle.table_octets.specs.Table.{row_in}
 use Rattle.inspect.specs.Places.{further}
 use Rattle.inspect.proofs.further.Goals as goal
 
-pub returns-then-at-i : goal.returns-then-at-i
+pub returns-then-place_in-i : goal.returns-then-place_in-i
 unfolding further
-returns-then-at-i c = rw (lt-ltb _ _ c.if-at-i.true)
+returns-then-place_in-i c = rw (← c.place_in.ensures, lt-ltb _ _ c.if-place_in-i.true)
 
 pub returns-in-Less : goal.returns-in-Less
 unfolding further comparison_of row_in
-returns-in-Less c = rw (le-ltb _ _ c.if-at-i.false, ← c.compare_keys-c.ensures, c.in-Less.is)
+returns-in-Less c = rw (← c.place_in.ensures, le-ltb _ _ c.if-place_in-i.false, ← c.in-Less.ensures)
 
-pub returns-in-Same : goal.returns-in-Same
+pub returns-in-Equal : goal.returns-in-Equal
 unfolding further comparison_of row_in
-returns-in-Same c = rw (le-ltb _ _ c.if-at-i.false, ← c.compare_keys-c.ensures, c.in-Same.is)
+returns-in-Equal c = rw (← c.place_in.ensures, le-ltb _ _ c.if-place_in-i.false, ← c.in-Equal.ensures)
 
 pub returns-in-Greater : goal.returns-in-Greater
 unfolding further comparison_of row_in
-returns-in-Greater c = rw (le-ltb _ _ c.if-at-i.false, ← c.compare_keys-c.ensures, c.in-Greater.is)
+returns-in-Greater c = rw (← c.place_in.ensures, le-ltb _ _ c.if-place_in-i.false, ← c.in-Greater.ensures)

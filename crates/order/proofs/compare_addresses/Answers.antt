@@ -1,21 +1,23 @@
 -- `order::compare_addresses` meets its contract. Assumes nothing.
+use mathlib.Core.Path.{◌∙◌, ap}
 use Rattle.calls.specs.Order.{◌or◌}
 use Rattle.record_octets.specs.Record.{address_in}
 use Rattle.order.specs.Values.{comparison_of, address_of, by_address}
+use Rattle.order.proofs.Compared.{numbers}
 use Rattle.order.proofs.compare_addresses.Goals as goal
 
-pub returns-then-second : goal.returns-then-second
+pub returns-in-true-true : goal.returns-in-true-true
 unfolding address_of by_address ◌or◌ address_in
-returns-then-second c = rw (← c.load_optional-x.ensures, ← c.load_optional-y.ensures, c.if-first.true, c.if-second.true) c.compare_numbers.ensures
+returns-in-true-true c = rw (← c.load_optional-x.ensures, ← c.load_optional-y.ensures, c.in-true-true.is-0, c.in-true-true.is-1) (ap comparison_of c.cmp.ensures ∙ numbers _ _)
 
-pub returns-then-first : goal.returns-then-first
+pub returns-in-true-false : goal.returns-in-true-false
 unfolding comparison_of address_of by_address ◌or◌ address_in
-returns-then-first c = rw (← c.load_optional-x.ensures, ← c.load_optional-y.ensures, c.if-first.true, c.if-second.false)
+returns-in-true-false c = rw (← c.load_optional-x.ensures, ← c.load_optional-y.ensures, c.in-true-false.is-0, c.in-true-false.is-1)
 
-pub returns-then-second-2 : goal.returns-then-second-2
+pub returns-in-false-true : goal.returns-in-false-true
 unfolding comparison_of address_of by_address ◌or◌ address_in
-returns-then-second-2 c = rw (← c.load_optional-x.ensures, ← c.load_optional-y.ensures, c.if-first.false, c.if-second-2.true)
+returns-in-false-true c = rw (← c.load_optional-x.ensures, ← c.load_optional-y.ensures, c.in-false-true.is-0, c.in-false-true.is-1)
 
-pub returns : goal.returns
+pub returns-in-false-false : goal.returns-in-false-false
 unfolding address_of by_address ◌or◌ address_in
-returns c = rw (← c.load_optional-x.ensures, ← c.load_optional-y.ensures, c.if-first.false, c.if-second-2.false) c.compare_names.ensures
+returns-in-false-false c = rw (← c.load_optional-x.ensures, ← c.load_optional-y.ensures, c.in-false-false.is-0, c.in-false-false.is-1) c.compare_names.ensures

@@ -5,6 +5,3 @@ use Rattle.recipients.proofs.fill.Given as goal
 
 abbrev pub invariant-loop-i : goal.invariant-loop-i
 invariant-loop-i l = Filling (addresses_in l.to).count (addresses_in l.to).list l.i l.n l.s
-
-abbrev pub decreases-loop-i : goal.decreases-loop-i
-decreases-loop-i l = l.i

@@ -1,5 +1,4 @@
 -- `recipients::find_recipient` meets its contract. The invariant: the addresses of the recipients so far come before the one that is sought. Assumes nothing.
-use Prim.Native.Nat.{◌-◌}
 use mathlib.Core.Path.{ap}
 use native.Mathlib.Omega.{arith}
 use Rattle.record_octets.specs.Record.{address_in}
@@ -15,9 +14,9 @@ pub returns-in-Less : goal.returns-in-Less
 unfolding comparison_of
 returns-in-Less c = (omega arith, λ e. no_way e, stops-free c.args.s.now c.args.count c.requires.1 (address_of (address_in c.args.a.now)) c.loop-i.i c.loop-i.invariant (omega arith) c.entry-x.result.now c.entry-x.ensures.0 _ c.compare_addresses-c.ensures (ap comparison_of c.in-Less.is))
 
-pub returns-in-Same : goal.returns-in-Same
+pub returns-in-Equal : goal.returns-in-Equal
 unfolding comparison_of
-returns-in-Same c = (omega arith, λ e. omega arith, stops-held c.args.s.now c.args.count c.requires.1 (address_of (address_in c.args.a.now)) c.loop-i.i c.loop-i.invariant (omega arith) c.entry-x.result.now c.entry-x.ensures.0 _ c.compare_addresses-c.ensures (ap comparison_of c.in-Same.is))
+returns-in-Equal c = (omega arith, λ e. omega arith, stops-held c.args.s.now c.args.count c.requires.1 (address_of (address_in c.args.a.now)) c.loop-i.i c.loop-i.invariant (omega arith) c.entry-x.result.now c.entry-x.ensures.0 _ c.compare_addresses-c.ensures (ap comparison_of c.in-Equal.is))
 
 pub loop-i-preserved : goal.loop-i-preserved
 unfolding comparison_of

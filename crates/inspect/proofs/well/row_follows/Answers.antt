@@ -1,11 +1,11 @@
 -- `inspect::well::row_follows` meets its contract. Assumes nothing.
-use borrow.Author.Tests.{eq-eqb, ne_eqb}
+use mathlib.Core.Path.{ap, ◌∙◌}
+use mathlib.Core.Bool.{true, false}
+use Rattle.calls.specs.Order.{choose}
+use Rattle.order.proofs.Compared.{less-is}
 use Rattle.table_octets.specs.Table.{row_in}
 use Rattle.inspect.proofs.well.row_follows.Goals as goal
 
-pub returns-then-i-eq0 : goal.returns-then-i-eq0
-returns-then-i-eq0 c = rw (eq-eqb _ 0 c.if-i-eq0.true)
-
 pub returns : goal.returns
 unfolding row_in
-returns c = rw (ne_eqb _ 0 c.if-i-eq0.false, ← c.compare_keys.ensures) c.is_less.ensures
+returns c = rw c.in-Some.is (c.is_lt.ensures ∙ less-is _ ∙ ap (λ o. choose o true false false) c.compare_keys-order.ensures)
