@@ -1,4 +1,6 @@
 // Which requests a code answers, and where it may stand.
+#![tactic(auto, using(std::proofs::lemmas::Bool::Decides::nat_tests), unfolding(order::specs::Requests::answered_by))]
+
 ghost use Rattle.std.specs.Prelude.{◌≡◌, ◌&&◌, ◌||◌, eqb};
 ghost use Rattle.order.specs.Requests.{answered_by};
 
@@ -6,10 +8,7 @@ ghost use Rattle.order.specs.Requests.{answered_by};
 fn is_own_or_two(own: u32, code: u32) -> bool
     ensures { result ≡ eqb code own || eqb code 2 }
 {
-    if code == own {
-        return true;
-    }
-    code == 2
+    code == own || code == 2
 }
 
 // 1 answers a machine acknowledge request.
@@ -30,26 +29,14 @@ pub fn answers_acknowledge(code: u32) -> bool
 pub fn answers_reply(code: u32) -> bool
     ensures { result ≡ (answered_by code).reply }
 {
-    if code == 4 {
-        return true;
-    }
-    if code == 5 {
-        return true;
-    }
-    is_own_or_two(6, code)
+    code == 4 || code == 5 || is_own_or_two(6, code)
 }
 
 // No code, or one that answers an asked request.
 pub fn code_fits(asked: bool, answers: bool, code: u32) -> bool
     ensures { result ≡ eqb code 0 || (asked && answers) }
 {
-    if code == 0 {
-        return true;
-    }
-    if asked {
-        return answers;
-    }
-    false
+    code == 0 || asked && answers
 }
 
 // Whether one of three is set.
