@@ -11,137 +11,96 @@ use leaves::block::{
 };
 
 // Rule (a): without G1 no G7.
+#[tactic(auto, unfolding(header::specs::Rules::rule_a))]
 fn rule_a(x: Setting, b: &[u8]) -> bool
     requires { length b.now ≡ size_of_block }
     ensures { result ≡ rule_a x (block_in b.now) }
 {
-    let originator = x.originator;
-    if originator {
-        return true;
-    }
-    !has_requests(b)
+    x.originator || !has_requests(b)
 }
 
 // Rule (b): with G8 neither G6 nor G7.
+#[tactic(auto, unfolding(header::specs::Rules::rule_b))]
 fn rule_b(x: Setting, b: &[u8]) -> bool
     requires { length b.now ≡ size_of_block }
     ensures { result ≡ rule_b x (block_in b.now) }
 {
-    if has_response(b) {
-        if has_perish(b) {
-            return false;
-        }
-        return !has_requests(b);
-    }
-    true
+    !has_response(b) || (!has_perish(b) && !has_requests(b))
 }
 
 // Rule (c): no G4 in UMF 1.
+#[tactic(auto, unfolding(header::specs::Rules::rule_c))]
 fn rule_c(x: Setting, b: &[u8]) -> bool
     requires { length b.now ≡ size_of_block }
     ensures { result ≡ rule_c x (block_in b.now) }
 {
-    if umf(b) == 1 {
-        return !has_identity(b);
-    }
-    true
+    umf(b) != 1 || !has_identity(b)
 }
 
 // Rule (d): nor in UMF 4.
+#[tactic(auto, unfolding(header::specs::Rules::rule_d))]
 fn rule_d(x: Setting, b: &[u8]) -> bool
     requires { length b.now ≡ size_of_block }
     ensures { result ≡ rule_d x (block_in b.now) }
 {
-    if umf(b) == 4 {
-        return !has_identity(b);
-    }
-    true
+    umf(b) != 4 || !has_identity(b)
 }
 
 // Rule (e): no G8 in a compressed message.
+#[tactic(auto, unfolding(header::specs::Rules::rule_e))]
 fn rule_e(x: Setting, b: &[u8]) -> bool
     requires { length b.now ≡ size_of_block }
     ensures { result ≡ rule_e x (block_in b.now) }
 {
-    let compression = x.compression;
-    if compression {
-        return !has_response(b);
-    }
-    true
+    !x.compression || !has_response(b)
 }
 
 // Rule (f), of the record: of several blocks the header has its size.
+#[tactic(auto, unfolding(header::specs::Rules::rule_f_header))]
 fn rule_f_header(x: Setting) -> bool
     ensures { result ≡ rule_f_header x }
 {
-    let several = x.several;
-    if several {
-        return x.sized;
-    }
-    true
+    !x.several || x.sized
 }
 
 // Rule (f), of a block: of several blocks each has its size.
+#[tactic(auto, unfolding(header::specs::Rules::rule_f))]
 fn rule_f(x: Setting, b: &[u8]) -> bool
     requires { length b.now ≡ size_of_block }
     ensures { result ≡ rule_f x (block_in b.now) }
 {
-    let several = x.several;
-    if several {
-        let size = message_size(b);
-        return size.present;
-    }
-    true
+    !x.several || message_size(b).present
 }
 
 // Rule (g): a CANTCO reason with R/C 6 alone.
+#[tactic(auto, unfolding(header::specs::Rules::rule_g))]
 fn rule_g(x: Setting, b: &[u8]) -> bool
     requires { length b.now ≡ size_of_block }
     ensures { result ≡ rule_g x (block_in b.now) }
 {
-    if has_response(b) {
-        if compliance_code(b) == 6 {
-            return true;
-        }
-        return !has_cantco(b);
-    }
-    true
+    !has_response(b) || compliance_code(b) == 6 || !has_cantco(b)
 }
 
 // Rule (h): a CANTPRO reason with R/C 2 alone.
+#[tactic(auto, unfolding(header::specs::Rules::rule_h))]
 fn rule_h(x: Setting, b: &[u8]) -> bool
     requires { length b.now ≡ size_of_block }
     ensures { result ≡ rule_h x (block_in b.now) }
 {
-    if has_response(b) {
-        if compliance_code(b) == 2 {
-            return true;
-        }
-        return !has_cantpro(b);
-    }
-    true
+    !has_response(b) || compliance_code(b) == 2 || !has_cantpro(b)
 }
 
 // Rule (i): what G7 asks needs G5.
+#[tactic(auto, unfolding(header::specs::Rules::rule_i))]
 fn rule_i(x: Setting, b: &[u8]) -> bool
     requires { length b.now ≡ size_of_block }
     ensures { result ≡ rule_i x (block_in b.now) }
 {
-    if has_requests(b) {
-        if asks_machine(b) {
-            return has_origin(b);
-        }
-        if asks_acknowledge(b) {
-            return has_origin(b);
-        }
-        if asks_reply(b) {
-            return has_origin(b);
-        }
-    }
-    true
+    !has_requests(b) || !(asks_machine(b) || asks_acknowledge(b) || asks_reply(b)) || has_origin(b)
 }
 
 // How many rules a block keeps before the first that it breaks.
+#[tactic(auto, unfolding(crate::specs::Ranks::rank))]
 pub fn rank_of(x: Setting, b: &[u8]) -> u32
     requires { length b.now ≡ size_of_block }
     ensures { result ≡ rank (rules x) (block_in b.now) }
@@ -177,6 +136,7 @@ pub fn rank_of(x: Setting, b: &[u8]) -> u32
 }
 
 // How many the record keeps as a whole: only (f) asks something of it.
+#[tactic(auto, unfolding(crate::specs::Ranks::whole_rank))]
 pub fn whole_rank(x: Setting) -> u32
     ensures { result ≡ whole_rank (rules x) }
 {
