@@ -16,30 +16,12 @@ use Rattle.header.proofs.Kept.{Numbered}
 use Rattle.rules.specs.Ranks.{rank, whole_rank, numbers_of, told_of, better_rank, better_block}
 use Rattle.rules.proofs.Over.{used_step, used-end}
 
--- a block that keeps the first rule, and one that breaks it
-module _ {A : Type 0} (r : Rule A) (rs : List (Rule A)) (b : A) where
-  pub kept-rank : (k : ℕ) → r.each b ≡ true → k ≡ rank rs b → suc k ≡ rank (r ∷ rs) b
-  unfolding rank
-  kept-rank k e h = rw e (ap suc h)
-
-  pub broken-rank : r.each b ≡ false → 0 ≡ rank (r ∷ rs) b
-  unfolding rank
-  broken-rank e = rw e
-
--- and where there is none
-pub no-rank : {A : Type 0} (b : A) → 0 ≡ rank [] b
-unfolding rank
-no-rank b = refl
-
 -- behind the last rule
 pub told_none : (ms : List ℕ) (k n : ℕ) → length ms ≤ k → fine ≡ told_of ms k n
 unfolding told_of
 told_none [] k n h = refl
 told_none (m ∷ ms) zero n h = absurd (omega arith)
 told_none (m ∷ ms) (suc k) n h = told_none ms k n (omega arith)
-
-pub past : (k n : ℕ) → n ≤ k → (k ≡ n → ⊥) → suc n ≤ k
-past k n h e = omega arith
 
 module _ {A : Type 0} where
   -- what is told behind the blocks, of which the first is the i-th, where rank k and block n were found before them

@@ -22,40 +22,39 @@ pub fn better(found: Broken, rank: u32, block: BlockNumber) -> Broken
     found
 }
 
-// What is told of a fault in a block.
-pub fn refused(fault: Fault, block: BlockNumber) -> Result<(), BlockFault>
-    ensures { result ≡ Err (record { fault = fault; block = block }) }
-{
-    Err(BlockFault { fault, block })
-}
-
 // The rules (a) to (i) have the ranks 0 to 8.
 pub fn broken_rule(found: Broken) -> Result<(), BlockFault>
     ensures { finding_says result ≡ told_of rule_numbers found.rank found.block.0 }
 {
-    let block = found.block;
-    match found.rank {
-        0 => refused(Fault::RuleA, block),
-        1 => refused(Fault::RuleB, block),
-        2 => refused(Fault::RuleC, block),
-        3 => refused(Fault::RuleD, block),
-        4 => refused(Fault::RuleE, block),
-        5 => refused(Fault::RuleF, block),
-        6 => refused(Fault::RuleG, block),
-        7 => refused(Fault::RuleH, block),
-        8 => refused(Fault::RuleI, block),
-        _ => Ok(()),
-    }
+    let fault = match found.rank {
+        0 => Fault::RuleA,
+        1 => Fault::RuleB,
+        2 => Fault::RuleC,
+        3 => Fault::RuleD,
+        4 => Fault::RuleE,
+        5 => Fault::RuleF,
+        6 => Fault::RuleG,
+        7 => Fault::RuleH,
+        8 => Fault::RuleI,
+        _ => return Ok(()),
+    };
+    Err(BlockFault {
+        fault,
+        block: found.block,
+    })
 }
 
 // Of the sizes, the rules on a block's body: the ranks 0 and 1.
 pub fn wrong_body(found: Broken) -> Result<(), BlockFault>
     ensures { finding_says result ≡ told_of body_numbers found.rank found.block.0 }
 {
-    let block = found.block;
-    match found.rank {
-        0 => refused(Fault::NoBody, block),
-        1 => refused(Fault::NeedlessBody, block),
-        _ => Ok(()),
-    }
+    let fault = match found.rank {
+        0 => Fault::NoBody,
+        1 => Fault::NeedlessBody,
+        _ => return Ok(()),
+    };
+    Err(BlockFault {
+        fault,
+        block: found.block,
+    })
 }

@@ -1,6 +1,4 @@
 // The rules: one function each, and a block's rank among them.
-#![tactic(auto, using(std::proofs::lemmas::Bool::Decides::nat_tests), unfolding(header::specs::Rules::rule_a, header::specs::Rules::rule_b, header::specs::Rules::rule_c, header::specs::Rules::rule_d, header::specs::Rules::rule_e, header::specs::Rules::rule_f, header::specs::Rules::rule_f_header, header::specs::Rules::rule_g, header::specs::Rules::rule_h, header::specs::Rules::rule_i))]
-
 ghost use Rattle.std.specs.Prelude.{◌≡◌, length};
 ghost use Rattle.header.specs.Rules.{rule_a, rule_b, rule_c, rule_d, rule_e, rule_f, rule_f_header, rule_g, rule_h, rule_i, rules};
 ghost use Rattle.record_octets.specs.Record.{size_of_block, block_in};
@@ -13,6 +11,7 @@ use leaves::block::{
 };
 
 // Rule (a): without G1 no G7.
+#[tactic(auto, unfolding(header::specs::Rules::rule_a))]
 fn rule_a(x: Setting, b: &[u8]) -> bool
     requires { length b.now ≡ size_of_block }
     ensures { result ≡ rule_a x (block_in b.now) }
@@ -21,14 +20,16 @@ fn rule_a(x: Setting, b: &[u8]) -> bool
 }
 
 // Rule (b): with G8 neither G6 nor G7.
+#[tactic(auto, unfolding(header::specs::Rules::rule_b))]
 fn rule_b(x: Setting, b: &[u8]) -> bool
     requires { length b.now ≡ size_of_block }
     ensures { result ≡ rule_b x (block_in b.now) }
 {
-    !has_response(b) || !(has_perish(b) || has_requests(b))
+    !has_response(b) || (!has_perish(b) && !has_requests(b))
 }
 
 // Rule (c): no G4 in UMF 1.
+#[tactic(auto, unfolding(header::specs::Rules::rule_c))]
 fn rule_c(x: Setting, b: &[u8]) -> bool
     requires { length b.now ≡ size_of_block }
     ensures { result ≡ rule_c x (block_in b.now) }
@@ -37,6 +38,7 @@ fn rule_c(x: Setting, b: &[u8]) -> bool
 }
 
 // Rule (d): nor in UMF 4.
+#[tactic(auto, unfolding(header::specs::Rules::rule_d))]
 fn rule_d(x: Setting, b: &[u8]) -> bool
     requires { length b.now ≡ size_of_block }
     ensures { result ≡ rule_d x (block_in b.now) }
@@ -45,6 +47,7 @@ fn rule_d(x: Setting, b: &[u8]) -> bool
 }
 
 // Rule (e): no G8 in a compressed message.
+#[tactic(auto, unfolding(header::specs::Rules::rule_e))]
 fn rule_e(x: Setting, b: &[u8]) -> bool
     requires { length b.now ≡ size_of_block }
     ensures { result ≡ rule_e x (block_in b.now) }
@@ -53,6 +56,7 @@ fn rule_e(x: Setting, b: &[u8]) -> bool
 }
 
 // Rule (f), of the record: of several blocks the header has its size.
+#[tactic(auto, unfolding(header::specs::Rules::rule_f_header))]
 fn rule_f_header(x: Setting) -> bool
     ensures { result ≡ rule_f_header x }
 {
@@ -60,6 +64,7 @@ fn rule_f_header(x: Setting) -> bool
 }
 
 // Rule (f), of a block: of several blocks each has its size.
+#[tactic(auto, unfolding(header::specs::Rules::rule_f))]
 fn rule_f(x: Setting, b: &[u8]) -> bool
     requires { length b.now ≡ size_of_block }
     ensures { result ≡ rule_f x (block_in b.now) }
@@ -68,6 +73,7 @@ fn rule_f(x: Setting, b: &[u8]) -> bool
 }
 
 // Rule (g): a CANTCO reason with R/C 6 alone.
+#[tactic(auto, unfolding(header::specs::Rules::rule_g))]
 fn rule_g(x: Setting, b: &[u8]) -> bool
     requires { length b.now ≡ size_of_block }
     ensures { result ≡ rule_g x (block_in b.now) }
@@ -76,6 +82,7 @@ fn rule_g(x: Setting, b: &[u8]) -> bool
 }
 
 // Rule (h): a CANTPRO reason with R/C 2 alone.
+#[tactic(auto, unfolding(header::specs::Rules::rule_h))]
 fn rule_h(x: Setting, b: &[u8]) -> bool
     requires { length b.now ≡ size_of_block }
     ensures { result ≡ rule_h x (block_in b.now) }
@@ -84,6 +91,7 @@ fn rule_h(x: Setting, b: &[u8]) -> bool
 }
 
 // Rule (i): what G7 asks needs G5.
+#[tactic(auto, unfolding(header::specs::Rules::rule_i))]
 fn rule_i(x: Setting, b: &[u8]) -> bool
     requires { length b.now ≡ size_of_block }
     ensures { result ≡ rule_i x (block_in b.now) }
@@ -92,6 +100,7 @@ fn rule_i(x: Setting, b: &[u8]) -> bool
 }
 
 // How many rules a block keeps before the first that it breaks.
+#[tactic(auto, unfolding(crate::specs::Ranks::rank))]
 pub fn rank_of(x: Setting, b: &[u8]) -> u32
     requires { length b.now ≡ size_of_block }
     ensures { result ≡ rank (rules x) (block_in b.now) }
@@ -131,5 +140,8 @@ pub fn rank_of(x: Setting, b: &[u8]) -> u32
 pub fn whole_rank(x: Setting) -> u32
     ensures { result ≡ whole_rank (rules x) }
 {
-    if rule_f_header(x) { 9 } else { 5 }
+    if rule_f_header(x) {
+        return 9;
+    }
+    5
 }

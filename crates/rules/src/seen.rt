@@ -5,7 +5,7 @@ ghost use Rattle.header.specs.Sizes.{judgement};
 ghost use Rattle.record_octets.specs.Record.{size_of_block, block_in, size_of_blocks_list, blocks_of, size_of_blocks, blocks_in};
 ghost use Rattle.rules.specs.Sees.{Unseen, Sees, concluded};
 
-use crate::order::{Broken, better, broken_rule, refused, wrong_body};
+use crate::order::{Broken, better, broken_rule, wrong_body};
 use crate::rule::{rank_of, whole_rank};
 use crate::sizes::{alone_share, body_rank, share};
 use bits::OctetSize;
@@ -47,12 +47,10 @@ pub fn see(f: Seen, x: Setting, b: &[u8], number: BlockNumber, alone: OctetSize)
     requires { length b.now ≡ size_of_block }
     ensures { Sees x alone.0 number.0 (block_in b.now) f result }
 {
-    let rule = better(f.rule, rank_of(x, b), number);
     let n = share(b, alone);
-    let body = better(f.body, body_rank(b, n), number);
     Seen {
-        rule,
-        body,
+        rule: better(f.rule, rank_of(x, b), number),
+        body: better(f.body, body_rank(b, n), number),
         fits: f.fits && n.0 <= f.left.0,
         left: OctetSize(f.left.0.saturating_sub(n.0)),
     }
@@ -65,10 +63,16 @@ pub fn conclude(f: Seen, holds: bool) -> Result<(), BlockFault>
 {
     broken_rule(f.rule)?;
     if !holds {
-        return refused(Fault::HeaderSize, BlockNumber(0));
+        return Err(BlockFault {
+            fault: Fault::HeaderSize,
+            block: BlockNumber(0),
+        });
     }
-    if !(f.fits && f.left.0 == 0) {
-        return refused(Fault::SizeSum, BlockNumber(0));
+    if !f.fits || f.left.0 != 0 {
+        return Err(BlockFault {
+            fault: Fault::SizeSum,
+            block: BlockNumber(0),
+        });
     }
     wrong_body(f.body)
 }
