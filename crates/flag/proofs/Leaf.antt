@@ -10,8 +10,8 @@ use native.Mathlib.Omega.{arith}
 use Rattle.bits.specs.Bits.{low_bits, bits_of, value, weight, field, splice}
 use Rattle.bits.proofs.OctetBits.{length-bits_of}
 use Rattle.bits.proofs.Fields.{field_lt}
-use Rattle.codec.specs.Answer.{got, refused}
-use Rattle.codec.specs.Codec.{must, same, flag, first_bit}
+use Rattle.codec.specs.Answer.{got, refused, next, pick}
+use Rattle.codec.specs.Codec.{must, same, tested, flag, first_bit}
 use Rattle.codec.specs.Lists.{recurs}
 use Rattle.codec.specs.Writes.{Writes}
 
@@ -80,3 +80,15 @@ same-so true true e = refl
 same-so true false e = sym e
 same-so false true e = sym e
 same-so false false e = refl
+
+-- a bit that has to be b is b
+pub must-value : (b : Bool) (f : ℕ) (bs : List Bool) (p : ℕ) (x : Bool) (q : ℕ) → got x q ≡ (must b f).read bs p → x ≡ b
+unfolding tested next flag
+must-value b f bs p x q e = go b (drop p bs) e
+  where
+    go : (c : Bool) (l : List Bool) → got x q ≡ next (first_bit l p) (λ y r. pick (same y c) (got y r) (refused f p)) → x ≡ c
+    go c [] e = cc
+    go true (true ∷ l) e = cc
+    go true (false ∷ l) e = cc
+    go false (true ∷ l) e = cc
+    go false (false ∷ l) e = cc

@@ -42,10 +42,7 @@ pub fn read_must(s: Datagram, at: BitPlace, b: bool, fault: Fault) -> Reading<bo
 pub fn read_zero(s: Datagram, at: BitPlace, fault: Fault) -> Step
     ensures { answer result false ≡ (must false (fault_no fault)).read (bits_in s.entry) at.0 }
 {
-    let (x, next) = read_flag(s, at)?;
-    if x {
-        return Err(FieldFault { fault, place: at });
-    }
+    let (_, next) = read_must(s, at, false, fault)?;
     Ok(next)
 }
 
@@ -64,7 +61,7 @@ pub fn write_flag(out: &mut [u8], at: BitPlace, b: bool) -> BitPlace
     ensures { Writes flag b out.old out.new at.0 result.0 }
 {
     bits::write_bits(out, at, 1, b as u32);
-    BitPlace(at.0 + 1)
+    end_flag(at)
 }
 
 // A bit that has to be b.

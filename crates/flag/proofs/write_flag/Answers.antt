@@ -3,4 +3,4 @@ use Rattle.flag.proofs.Leaf.{flag-writes}
 use Rattle.flag.proofs.write_flag.Goals as goal
 
 pub returns : goal.returns
-returns c = flag-writes _ _ _ _ c.write_bits.ensures
+returns c = rw c.end_flag.ensures (flag-writes _ _ _ _ c.write_bits.ensures)
