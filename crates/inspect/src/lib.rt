@@ -5,7 +5,7 @@
 ghost use Rattle.std.specs.Prelude.{◌≡◌, ◌<◌, ◌≤◌, length, IfSome, is_some};
 ghost use Rattle.cells.specs.Cells.{many};
 ghost use Rattle.order.specs.Values.{key_of, by_key};
-ghost use Rattle.table.specs.Search.{Placed, place_of};
+ghost use Rattle.table.specs.Search.{Placed, index_of};
 ghost use Rattle.table.specs.WellFormed.{well_formed};
 ghost use Rattle.table.specs.declared.Table.{Table};
 ghost use Rattle.table_octets.specs.Table.{size_of_key, key_in, size_of_row, row_in, size_of_table, table_in, size_of_table_rows};
@@ -22,8 +22,8 @@ pub mod keys;
 pub mod well;
 
 // The place, whether the key is held there or would stand there.
-fn place_in(p: Position) -> usize
-    ensures { result ≡ place_of p }
+fn index_of(p: Position) -> usize
+    ensures { result ≡ index_of p }
 {
     match p {
         Ok(at) | Err(at) => at,
@@ -35,7 +35,7 @@ fn further(p: Position, i: usize, key: &[u8], row: &[u8]) -> Position
     requires { (i < 32) × (length key.now ≡ size_of_key) × (length row.now ≡ size_of_row) }
     ensures { result ≡ places.further i (by_key (key_of (key_in key.now)) (key_of (row_in row.now).key)) p }
 {
-    if place_in(p) < i {
+    if index_of(p) < i {
         return p;
     }
     let c = compare_keys(key, &row[in_row::KEY..in_row::ASKED]);

@@ -102,13 +102,10 @@ pub fn list_row(t: &[u8; TABLE], number: u32, out: &mut [u8]) -> Listed
 {
     let mut key = [0u8; KEY];
     key[in_key::ADDRESS] = 1;
-    let seen = inspect(t, &key);
-    let well = seen.well;
-    if !well {
+    if inspect(t, &key).is_none() {
         return refusal(ListingFault::IllFormed);
     }
-    let room = has_room(t, number, out.len());
-    if !room {
+    if !has_room(t, number, out.len()) {
         return refusal(ListingFault::NoRoom);
     }
     let end = put_listed(out, t, number);

@@ -9,7 +9,7 @@ ghost use Rattle.record_octets.specs.Record.{size_of_address, address_in, size_o
 ghost use Rattle.calls.specs.Keyed.{put};
 ghost use Rattle.order.specs.Values.{Address, address_of, by_address};
 ghost use Rattle.order.specs.Requests.{Mark, blank};
-ghost use Rattle.table.specs.Search.{Stopped, place_of, is_held};
+ghost use Rattle.table.specs.Search.{Stopped, index_of, is_held};
 ghost use Rattle.table_octets.specs.Table.{size_of_key, size_of_recipient, recipient_in, recipient_octets, size_of_row, size_of_row_recipients};
 ghost use Rattle.table_octets.specs.Typed.{TypedRecipient};
 ghost use Rattle.table_octets.specs.Image.{recipient_image, recipients_image};
@@ -27,7 +27,7 @@ use table_octets::{in_recipient, in_row};
 // The first recipient whose address is not before the one that is sought.
 pub fn find_recipient(s: &[u8], count: u32, a: &[u8]) -> Position
     requires { (length s.now ≡ size_of_row_recipients) × (count ≤ 16) × (length a.now ≡ size_of_address) }
-    ensures { (place_of result ≤ count) × (is_held result ≡ true → place_of result < count) × Stopped by_address (address_of (address_in a.now)) (map (λ x. address_of x.address) (take count (many recipient_in size_of_recipient 16 s.now))) (place_of result) (is_held result) }
+    ensures { (index_of result ≤ count) × (is_held result ≡ true → index_of result < count) × Stopped by_address (address_of (address_in a.now)) (map (λ x. address_of x.address) (take count (many recipient_in size_of_recipient 16 s.now))) (index_of result) (is_held result) }
 {
     let n = count as usize;
     for i in 0..n {

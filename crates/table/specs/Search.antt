@@ -31,9 +31,9 @@ addresses_of r = map (λ x. address_of x.address) (used_recipients r)
 abbrev pub Position : Type 0
 Position = Result ℕ ℕ
 
-abbrev pub place_of : Position → ℕ
-place_of (Ok i) = i
-place_of (Err i) = i
+abbrev pub index_of : Position → ℕ
+index_of (Ok i) = i
+index_of (Err i) = i
 
 abbrev pub is_held : Position → Bool
 is_held (Ok i) = true
@@ -41,4 +41,4 @@ is_held (Err i) = false
 
 -- where the row with a key stands in a table, or would stand
 abbrev pub Placed : Table → DeclaredKey → Position → Type 0
-Placed t k p = (place_of p ≤ t.count) × (is_held p ≡ true → place_of p < t.count) × Stopped by_key (key_of k) (keys_of t) (place_of p) (is_held p)
+Placed t k p = (index_of p ≤ t.count) × (is_held p ≡ true → index_of p < t.count) × Stopped by_key (key_of k) (keys_of t) (index_of p) (is_held p)

@@ -1,42 +1,30 @@
 -- The ways of a recipient's three codes, and the cells that they stand in. Assumes nothing.
 use Prim.Native.Nat.{ℕ, zero, suc, ◌<◌, ◌≤◌}
-use mathlib.Core.Path.{◌≡◌, refl, ap, sym, ◌∙◌}
+use mathlib.Core.Path.{◌≡◌, refl}
 use mathlib.Core.Bool.{Bool, true, false, cond, ◌&&◌, ◌||◌}
 use mathlib.Core.Option.{Option, none, some}
 use lib.Dec.{T, eqb}
-use borrow.Author.Tests.{eqb-true, eq-eqb, ne_eqb}
+use borrow.Author.Tests.{ne_eqb}
 use native.Mathlib.Omega.{arith}
 use Rattle.header.specs.declared.Requests.{Requests}
-use Rattle.order.specs.Requests.{Ask, Mark, answered_by, opens, open_to, write, settle, Fit, WellMarked, ask_of}
+use Rattle.order.specs.Requests.{answered_by, opens, open_to, write, settle, Fit, ask_of}
 use Rattle.table.specs.Rows.{code_of}
 use Rattle.table_octets.specs.Image.{code_image}
 use Rattle.transitions.specs.Octets.{marks}
 
 -- ---- one request
 
-pub not-asked : (a b : Bool) (n : ℕ) → a ≡ false → false ≡ opens a b (code_of n)
+pub opens_is : (a b : Bool) (n : ℕ) → (a && b && eqb n 0) ≡ opens a b (code_of n)
 unfolding opens code_of
-not-asked a b n e = go (eqb n 0)
+opens_is a b n = go a b (eqb n 0)
   where
-    go : (z : Bool) → false ≡ opens a b (cond z none (some n))
-    go true = rw e
-    go false = refl
-
-pub not-answered : (a b : Bool) (n : ℕ) → a ≡ true → b ≡ false → false ≡ opens a b (code_of n)
-unfolding opens code_of
-not-answered a b n e f = go (eqb n 0)
-  where
-    go : (z : Bool) → false ≡ opens a b (cond z none (some n))
-    go true = rw (e, f)
-    go false = refl
-
-pub without-code : (a b : Bool) (n : ℕ) → a ≡ true → b ≡ true → eqb n 0 ≡ opens a b (code_of n)
-unfolding opens code_of
-without-code a b n e f = go (eqb n 0)
-  where
-    go : (z : Bool) → z ≡ opens a b (cond z none (some n))
-    go true = rw (e, f)
-    go false = refl
+    go : (a b z : Bool) → (a && b && z) ≡ opens a b (cond z none (some n))
+    go true true true = refl
+    go true true false = refl
+    go true false true = refl
+    go true false false = refl
+    go false b true = refl
+    go false b false = refl
 
 pub code-written : (b : Bool) (c n : ℕ) → b ≡ true → 0 < c → code_of c ≡ write b c (code_of n)
 unfolding write code_of
@@ -61,6 +49,17 @@ pub settle_is : (a : Requests) (c m k r x y z : ℕ) (u v w f g h o : Bool)
     → settle (ask_of a) c (marks m k r) ≡ cond o (some (marks x y z)) none
 unfolding settle open_to ask_of marks
 settle_is a c m k r x y z u v w f g h o i j l e d b n p q s = rw (p, q, s, n, e, d, b, i, j, l)
+
+-- none of the three is open
+pub settle_none : (a : Requests) (c m k r : ℕ) (u v w f g h : Bool)
+    → u ≡ (answered_by c).machine → v ≡ (answered_by c).acknowledge → w ≡ (answered_by c).reply
+    → f ≡ opens a.machine u (code_of m)
+    → g ≡ opens a.acknowledge v (code_of k)
+    → h ≡ opens a.reply w (code_of r)
+    → (f || g || h) ≡ false
+    → settle (ask_of a) c (marks m k r) ≡ none
+unfolding settle open_to ask_of marks
+settle_none a c m k r u v w f g h i j l e d b n = rw (← i, ← j, ← l, ← e, ← d, ← b, n)
 
 -- ---- the cell of a code
 

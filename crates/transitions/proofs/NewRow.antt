@@ -2,7 +2,7 @@
 use Prim.Native.Nat.{ℕ, zero, suc, ◌-◌, ◌<◌, ◌≤◌, Ordering}
 use mathlib.Core.Path.{◌≡◌, refl, ap, sym, subst, ◌∙◌}
 use mathlib.Core.Bool.{Bool, true}
-use mathlib.Core.List.{List, [], ◌∷◌, ◌++◌, map, map-map}
+use mathlib.Core.List.{List, [], ◌∷◌, map, map-map}
 use mathlib.Core.Option.{some}
 use lib.ListN.{length, take, get_or, length-map, length-take, replicate}
 use lib.Seq.{take_at}
@@ -26,11 +26,9 @@ use Rattle.order.specs.declared.Key.{Key as DeclaredKey}
 use Rattle.order.proofs.Orders.{by-address}
 use Rattle.order.proofs.Requests.{blank-well}
 use Rattle.cells.specs.Cells.{Each}
-use Rattle.table.specs.Rows.{mark_of, recipient_of, row_of, used_recipients}
+use Rattle.table.specs.Rows.{mark_of, recipient_of, used_recipients}
 use Rattle.table.specs.WellFormed.{recipient_fine}
 use Rattle.table.specs.Zero.{no_recipient}
-use Rattle.table.specs.declared.Recipient.{Recipient}
-use Rattle.table.specs.declared.Row.{Row}
 use Rattle.table_octets.specs.Image.{key_image, recipient_image, recipients_image, row_image}
 use Rattle.table_octets.specs.Typed.{TypedKey, TypedRecipient, TypedRow}
 use Rattle.table_octets.proofs.Images.{Coded, image-of-ask, recipient-of-image, row-of-image, address-image-legal, row-typed}

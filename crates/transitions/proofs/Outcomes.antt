@@ -2,22 +2,21 @@
 use Prim.Native.Nat.{ℕ, zero, suc, ◌<◌}
 use mathlib.Core.Path.{◌≡◌, refl, ap, sym, subst, ◌∙◌}
 use mathlib.Core.Bool.{Bool, true, false}
-use mathlib.Core.List.{List}
 use mathlib.Core.Logic.{inr}
 use mathlib.Core.Option.{none, some}
 use lib.ListN.{length}
-use lib.Dec.{eqb}
+use lib.Dec.{eqb, leb}
 use borrow.Author.Tests.{ne_eqb}
 use native.Mathlib.Omega.{arith}
 use Rattle.codec.specs.Answer.{pick}
 use Rattle.codec.specs.Verdict.{Verdict, in_block, plain, fine, first_of}
 use Rattle.order.specs.Values.{Address, Key, by_key, by_address}
 use Rattle.calls.specs.Keyed.{find, put, alter}
-use Rattle.order.specs.Requests.{Ask, Mark, settle}
+use Rattle.order.specs.Requests.{Mark, settle}
 use Rattle.calls.specs.Machine.{step}
 use Rattle.calls.specs.Operations as theory
 use Rattle.calls.specs.Operations.{post, receipt, release}
-use Rattle.order.specs.Calls.{Call, Operation, Row, Rows, make, full, on_table}
+use Rattle.order.specs.Calls.{Call, Operation, Row, Rows, full, on_table}
 use Rattle.order.proofs.Calls.{refused-stays}
 use Rattle.table.specs.Rows.{see}
 use Rattle.table.specs.WellFormed.{well_formed}
@@ -63,12 +62,26 @@ pub passed : (b : Bool) (f : Verdict) → (pick b f (plain 30)).number ≡ 0 →
 passed true f e = (refl, e)
 passed false f e = absurd (omega arith)
 
--- an answer y behind what was judged: the look at the table told its form
-pub judged-first : (x j f y : Verdict) (s w : Bool) → x ≡ first_of j y → j ≡ pick s f (plain 30) → s ≡ w → x ≡ first_of (pick w f (plain 30)) y
-judged-first x j f y s w e h i = e ∙ ap (λ (v : Verdict). first_of v y) (h ∙ ap (λ (b : Bool). pick b f (plain 30)) i)
+-- where neither the table's form nor the arguments refuse, the next refusal is told
+module _ (b : Bool) (f : Verdict) (w : b ≡ true) (z : f.number ≡ 0) where
+  pub told : (n : ℕ) → plain n ≡ first_of (pick b f (plain 30)) (plain n)
+  unfolding first_of
+  told n = rw (w, z)
+
+  pub told-held : (n : ℕ) → plain 22 ≡ first_of (first_of (pick b f (plain 30)) (plain 22)) (plain n)
+  unfolding first_of
+  told-held n = rw (w, z)
+
+  pub told-full : (n : ℕ) → leb 32 n ≡ true → plain 23 ≡ first_of (first_of (pick b f (plain 30)) (plain 0)) (plain (pick (leb 32 n) 23 0))
+  unfolding first_of
+  told-full n e = rw (w, z, e)
+
+  pub told-done : (n : ℕ) → leb 32 n ≡ false → fine ≡ first_of (first_of (pick b f (plain 30)) (plain 0)) (plain (pick (leb 32 n) 23 0))
+  unfolding first_of
+  told-done n e = rw (w, z, e)
 
 module _ (d : Operation) (t : Table) (f : Verdict) where
-  first-refused : 0 < (pick (well_formed t) f (plain 30)).number → OnValues (named f d) t (pick (well_formed t) f (plain 30)) t
+  pub first-refused : 0 < (pick (well_formed t) f (plain 30)).number → OnValues (named f d) t (pick (well_formed t) f (plain 30)) t
   first-refused l = by (well_formed t) refl
     where
       by : (b : Bool) → well_formed t ≡ b → OnValues (named f d) t (pick (well_formed t) f (plain 30)) t

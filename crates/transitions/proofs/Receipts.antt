@@ -14,7 +14,6 @@ use Rattle.codec.specs.Answer.{pick}
 use Rattle.codec.specs.Verdict.{Verdict, plain, fine, first_of}
 use Rattle.codec.proofs.ListLaws.{length-map}
 use Rattle.codec.proofs.Verdicts.{first_some, first_fine}
-use Rattle.header.specs.Table.{address}
 use Rattle.header.specs.declared.Address.{Address as DeclaredAddress}
 use Rattle.order.specs.Values.{Address, address_of, key_of, by_address, by_key}
 use Rattle.calls.specs.Keyed.{find, put, alter}
@@ -27,9 +26,8 @@ use Rattle.order.specs.declared.Key.{Key as DeclaredKey}
 use Rattle.calls.proofs.Orders.{Order}
 use Rattle.order.proofs.Orders.{by-address, by-key}
 use Rattle.table.specs.Rows.{see, mark_of, row_of, recipient_of, used_rows, used_recipients}
-use Rattle.table.specs.Search.{Stopped, keys_of, addresses_of, Placed}
+use Rattle.table.specs.Search.{Stopped, keys_of, addresses_of, Position, index_of, is_held, Placed}
 use Rattle.table.specs.WellFormed.{well_formed, row_fine, recipient_fine}
-use Rattle.table.specs.declared.Position.{Position}
 use Rattle.table.specs.declared.Recipient.{Recipient}
 use Rattle.table.specs.declared.Row.{Row}
 use Rattle.table.specs.declared.Table.{Table}
@@ -162,34 +160,34 @@ stored-again (x ∷ l) (suc i) d h = ap (λ m. x ∷ m) (stored-again l i d (ome
 
 -- ---- the whole call, from what the code has found: the place of the key, and what the row says
 
-module _ (t : Table) (cells : length t.rows ≡ 32) (k : DeclaredKey) (f : Verdict) (p : Position) (placed : well_formed t ≡ true → Placed t k p) (from : Address) (code : ℕ) (told : Verdict) (e : told ≡ first_of (pick (well_formed t) f (plain 30)) (plain (pick (not p.held) 26 0))) where
+module _ (t : Table) (cells : length t.rows ≡ 32) (k : DeclaredKey) (f : Verdict) (p : Position) (placed : well_formed t ≡ true → Placed t k p) (from : Address) (code : ℕ) (told : Verdict) (e : told ≡ first_of (pick (well_formed t) f (plain 30)) (plain (pick (not (is_held p)) 26 0))) where
   abbrev asked : Operation
   asked = receipt (key_of k) (from, code)
 
-  pub receipt-there : told.number ≡ 0 → (well_formed t ≡ true) × (f.number ≡ 0) × (p.at < t.count) × (t.count ≤ 32) × Stopped by_key (key_of k) (keys_of t) p.at true
+  pub receipt-there : told.number ≡ 0 → (well_formed t ≡ true) × (f.number ≡ 0) × (index_of p < t.count) × (t.count ≤ 32) × Stopped by_key (key_of k) (keys_of t) (index_of p) true
   receipt-there z =
       let a = first_fine _ _ (ap (λ (v : Verdict). v.number) (sym e) ∙ z) in
       let q = passed (well_formed t) f a.0 in
-      let h = held-there p.held 26 (lit< tt) a.1 in
+      let h = held-there (is_held p) 26 (lit< tt) a.1 in
       let g = placed q.0 in
-      (q.0, q.1, g.1 h, (fine-table t q.0).fits, subst (Stopped by_key (key_of k) (keys_of t) p.at) h g.2)
+      (q.0, q.1, g.1 h, (fine-table t q.0).fits, subst (Stopped by_key (key_of k) (keys_of t) (index_of p)) h g.2)
 
   -- no row has the key, or the call was refused before
   pub receipt-early : eqb told.number 0 ≡ false → OnValues (named f asked) t told t
   unfolding first_of
-  receipt-early n = acts asked t f told t (λ l. e ∙ first_some _ _ l) (λ q. refl) (λ w z. by w z p.held refl)
+  receipt-early n = acts asked t f told t (λ l. e ∙ first_some _ _ l) (λ q. refl) (λ w z. by w z (is_held p) refl)
     where
-      by : well_formed t ≡ true → f.number ≡ 0 → (h : Bool) → p.held ≡ h → OnValues (inr asked) t told t
+      by : well_formed t ≡ true → f.number ≡ 0 → (h : Bool) → is_held p ≡ h → OnValues (inr asked) t told t
       by w z true h = let m : told ≡ fine = e ∙ rw (w, z, h) in absurd (false≢true (sym n ∙ eq-eqb told.number 0 (ap (λ (v : Verdict). v.number) m)))
-      by w z false h = let m : told ≡ plain 26 = e ∙ rw (w, z, h) in values-kept (inr asked) t t (plain 26) told m refl (receipt-none t w k from code p.at (subst (Stopped by_key (key_of k) (keys_of t) p.at) h (placed w).2))
+      by w z false h = let m : told ≡ plain 26 = e ∙ rw (w, z, h) in values-kept (inr asked) t t (plain 26) told m refl (receipt-none t w k from code (index_of p) (subst (Stopped by_key (key_of k) (keys_of t) (index_of p)) h (placed w).2))
 
   -- the row settles it or refuses it; a row that refuses is stored again
   module _ (z : told.number ≡ 0) (d : Row) (after : Row) where
     abbrev old : Row
-    old = get_or t.rows p.at d
+    old = get_or t.rows (index_of p) d
 
     abbrev stored : Table
-    stored = record { rows = set t.rows p.at after; count = t.count }
+    stored = record { rows = set t.rows (index_of p) after; count = t.count }
 
     pub receipt-acts : (x : ℕ) → x ≡ (replied from code (row_of old).1).0 → after.key ≡ old.key → (row_of after).1 ≡ ((row_of old).1.0, mark from (replied from code (row_of old).1).1 (row_of old).1.1) → row_fine after ≡ true → ((x ≡ 0 → ⊥) → after ≡ old) → OnValues (named f asked) t (plain x) stored
     receipt-acts x r key rows good same =
@@ -199,9 +197,9 @@ module _ (t : Table) (cells : length t.rows ≡ 32) (k : DeclaredKey) (f : Verdi
         by : (x : ℕ) → x ≡ (replied from code (row_of old).1).0 → ((x ≡ 0 → ⊥) → after ≡ old) → OnValues (inr asked) t (plain x) stored
         by zero r same =
             let q = receipt-there z in
-            receipt-settled t q.0 k from code p.at d q.4 after stored r key rows good refl (take-set-lt t.count t.rows p.at after q.2)
+            receipt-settled t q.0 k from code (index_of p) d q.4 after stored r key rows good refl (take-set-lt t.count t.rows (index_of p) after q.2)
         by (suc n) r same =
             let q = receipt-there z in
             let u : after ≡ old = same (λ i. omega (arith, i)) in
-            let v : stored ≡ t = ap (λ (y : Row). record { rows = set t.rows p.at y; count = t.count }) u ∙ ap (λ (l : List Row). record { rows = l; count = t.count }) (stored-again t.rows p.at d (omega (arith, cells, q.2, q.3))) in
-            values-kept (inr asked) t stored (plain (suc n)) (plain (suc n)) refl v (receipt-refused t q.0 k from code p.at d q.4 (suc n) (omega arith) r)
+            let v : stored ≡ t = ap (λ (y : Row). record { rows = set t.rows (index_of p) y; count = t.count }) u ∙ ap (λ (l : List Row). record { rows = l; count = t.count }) (stored-again t.rows (index_of p) d (omega (arith, cells, q.2, q.3))) in
+            values-kept (inr asked) t stored (plain (suc n)) (plain (suc n)) refl v (receipt-refused t q.0 k from code (index_of p) d q.4 (suc n) (omega arith) r)

@@ -1,12 +1,12 @@
 -- A row's octets behind a receipt: the row that they hold. Assumes nothing.
 use Prim.Native.Nat.{ℕ, zero, suc, ◌+◌, ◌-◌, ◌*◌, ◌<◌, ◌≤◌, Ordering}
-use mathlib.Core.Path.{◌≡◌, refl, ap, sym, subst, ◌∙◌}
+use mathlib.Core.Path.{◌≡◌, refl, ap, sym, ◌∙◌}
 use mathlib.Core.Bool.{Bool, true, false, cond, ◌||◌}
 use mathlib.Core.List.{List, [], ◌∷◌, ◌++◌, map}
 use mathlib.Core.Option.{Option, none, some}
 use lib.ListN.{length, take, drop, set, get_or, length-map, length-take, take-append-drop}
 use lib.Seq.{take-set-lt, get_or-take}
-use lib.Dec.{T, eqb}
+use lib.Dec.{eqb}
 use borrow.Author.Tests.{eqb-true}
 use native.Mathlib.Omega.{arith}
 use Rattle.header.specs.declared.Address.{Address as DeclaredAddress}
@@ -20,8 +20,8 @@ use Rattle.order.specs.Calls.{Row as Cells, written, reply, replied, mark}
 use Rattle.order.proofs.Orders.{by-address}
 use Rattle.order.proofs.Requests.{settle-well}
 use Rattle.cells.specs.Cells.{part, replaced, many, word_in, word_octets}
-use Rattle.cells.proofs.Parts.{word-long, word-back, join}
-use Rattle.cells.proofs.Lists.{many-at, many-count}
+use Rattle.cells.proofs.Parts.{word-back}
+use Rattle.cells.proofs.Lists.{many-at}
 use Rattle.cells.proofs.Replaced.{part_length, part-of-part, replaced-length, replaced-part, replaced-before}
 use Rattle.record_octets.specs.Record.{address_in}
 use Rattle.table.specs.Rows.{code_of, mark_of, row_of, recipient_of, used_recipients}

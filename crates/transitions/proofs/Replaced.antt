@@ -1,7 +1,7 @@
 -- A recipient changed in the octets of a row, and a row in those of a table: the others stay. Assumes nothing.
 use Prim.Native.Nat.{ℕ, ◌+◌, ◌-◌, ◌*◌, ◌<◌, ◌≤◌}
 use mathlib.Core.Path.{◌≡◌, refl, sym, ap, ◌∙◌}
-use mathlib.Core.List.{List, [], ◌∷◌, ◌++◌}
+use mathlib.Core.List.{List}
 use native.Mathlib.Omega.{arith}
 use lib.ListN.{length, take, drop, set, length-drop}
 use lib.Seq.{paste, length-paste}
@@ -11,10 +11,8 @@ use Rattle.cells.proofs.Replaced.{part_length, part-of-replaced, replaced-length
 use Rattle.cells.proofs.Parts.{word-long, word-back}
 use Rattle.cells.proofs.Lists.{many-count}
 use Rattle.cells.proofs.Moved.{many-of-take, many-replaced}
-use Rattle.record_octets.specs.Record.{address_in, requests_in}
-use Rattle.table.specs.declared.Recipient.{Recipient}
+use Rattle.record_octets.specs.Record.{requests_in}
 use Rattle.table.specs.declared.Row.{Row}
-use Rattle.table.specs.declared.Table.{Table}
 use Rattle.table_octets.specs.Table.{key_in, recipient_in, row_in, table_in}
 use Rattle.transitions.specs.Octets.{counted}
 

@@ -1,6 +1,6 @@
 -- Where a search stopped is how many come before. Assumes nothing.
 use Prim.Native.Nat.{ℕ, zero, suc, Ordering}
-use mathlib.Core.Path.{◌≡◌, refl, ap, ◌∙◌}
+use mathlib.Core.Path.{◌≡◌, refl, ap}
 use mathlib.Core.Bool.{Bool, true, false}
 use mathlib.Core.List.{List, [], ◌∷◌, map}
 use native.Mathlib.Omega.{arith}

@@ -28,9 +28,8 @@ use Rattle.calls.specs.Operations.{post, release}
 use Rattle.order.specs.Calls.{Operation, make}
 use Rattle.order.specs.declared.Key.{Key as DeclaredKey}
 use Rattle.table.specs.Rows.{see, recipient_of, used_rows, used_recipients}
-use Rattle.table.specs.Search.{Stopped, keys_of, Placed}
+use Rattle.table.specs.Search.{Stopped, keys_of, Position, index_of, is_held, Placed}
 use Rattle.table.specs.Zero.{no_row}
-use Rattle.table.specs.declared.Position.{Position}
 use Rattle.table.specs.WellFormed.{well_formed, row_fine, recipient_fine}
 use Rattle.table.specs.declared.Row.{Row}
 use Rattle.table.specs.declared.Table.{Table}
@@ -104,36 +103,36 @@ module _ (t : Table) (cells : length t.rows ≡ 32) (w : well_formed t ≡ true)
 -- ---- the whole calls, from what the code has found: the place of the key, and the answer
 
 module _ (t : Table) (cells : length t.rows ≡ 32) (k : DeclaredKey) (f : Verdict) (p : Position) (placed : well_formed t ≡ true → Placed t k p) where
-  at_place : well_formed t ≡ true → (h : Bool) → p.held ≡ h → Stopped by_key (key_of k) (keys_of t) p.at h
-  at_place w h e = subst (Stopped by_key (key_of k) (keys_of t) p.at) e (placed w).2
+  at_place : well_formed t ≡ true → (h : Bool) → is_held p ≡ h → Stopped by_key (key_of k) (keys_of t) (index_of p) h
+  at_place w h e = subst (Stopped by_key (key_of k) (keys_of t) (index_of p)) e (placed w).2
 
   -- an operation that has a place has it in a table with at most 32 rows
   few : well_formed t ≡ true → t.count ≤ 32
   few w = (fine-table t w).fits
 
-  pub release-room : (x : Verdict) → x ≡ first_of (pick (well_formed t) f (plain 30)) (plain (pick (not p.held) 26 0)) → x.number ≡ 0 → (p.at < t.count) × (t.count ≤ 32)
+  pub release-room : (x : Verdict) → x ≡ first_of (pick (well_formed t) f (plain 30)) (plain (pick (not (is_held p)) 26 0)) → x.number ≡ 0 → (index_of p < t.count) × (t.count ≤ 32)
   release-room x e z =
       let a = first_fine _ _ (ap (λ (v : Verdict). v.number) (sym e) ∙ z) in
       let w = (passed (well_formed t) f a.0).0 in
-      ((placed w).1 (held-there p.held 26 (lit< tt) a.1), few w)
+      ((placed w).1 (held-there (is_held p) 26 (lit< tt) a.1), few w)
 
-  pub release-acts : (x : Verdict) (t' : Table) → x ≡ first_of (pick (well_formed t) f (plain 30)) (plain (pick (not p.held) 26 0)) → (eqb x.number 0 ≡ false → t' ≡ t) →
-      (eqb x.number 0 ≡ true → (t'.count + 1 ≡ t.count) × (used_rows t' ≡ take p.at (used_rows t) ++ drop (p.at + 1) (used_rows t))) → OnValues (named f (release (key_of k))) t x t'
+  pub release-acts : (x : Verdict) (t' : Table) → x ≡ first_of (pick (well_formed t) f (plain 30)) (plain (pick (not (is_held p)) 26 0)) → (eqb x.number 0 ≡ false → t' ≡ t) →
+      (eqb x.number 0 ≡ true → (t'.count + 1 ≡ t.count) × (used_rows t' ≡ take (index_of p) (used_rows t) ++ drop (index_of p + 1) (used_rows t))) → OnValues (named f (release (key_of k))) t x t'
   unfolding first_of
-  release-acts x t' e kept changed = acts (release (key_of k)) t f x t' (λ l. e ∙ first_some _ _ l) kept (λ w z. by w z p.held refl)
+  release-acts x t' e kept changed = acts (release (key_of k)) t f x t' (λ l. e ∙ first_some _ _ l) kept (λ w z. by w z (is_held p) refl)
     where
-      by : well_formed t ≡ true → f.number ≡ 0 → (h : Bool) → p.held ≡ h → OnValues (inr (release (key_of k))) t x t'
+      by : well_formed t ≡ true → f.number ≡ 0 → (h : Bool) → is_held p ≡ h → OnValues (inr (release (key_of k))) t x t'
       by w z true h =
           let n : x ≡ fine = e ∙ rw (w, z, h) in
           let u = changed (eq-eqb x.number 0 (ap (λ (v : Verdict). v.number) n)) in
-          subst (λ (m : Verdict). OnValues (inr (release (key_of k))) t m t') (sym n) (release-done t cells w k p.at t' no_row (at_place w true h) u.0 u.1)
+          subst (λ (m : Verdict). OnValues (inr (release (key_of k))) t m t') (sym n) (release-done t cells w k (index_of p) t' no_row (at_place w true h) u.0 u.1)
       by w z false h =
           let n : x ≡ plain 26 = e ∙ rw (w, z, h) in
-          values-kept _ t t' (plain 26) x n (kept (ne_eqb x.number 0 (λ q. omega (arith, ap (λ (v : Verdict). v.number) n, q)))) (release-none t cells w k p.at (at_place w false h))
+          values-kept _ t t' (plain 26) x n (kept (ne_eqb x.number 0 (λ q. omega (arith, ap (λ (v : Verdict). v.number) n, q)))) (release-none t cells w k (index_of p) (at_place w false h))
 
-  module _ (a : Requests) (to : Addresses) (legal : f.number ≡ 0 → (key_fault k ≡ 0) × (any_of (ask_of a) ≡ true) × ((addresses 15).check to ≡ 0)) (x : Verdict) (e : x ≡ first_of (first_of (pick (well_formed t) f (plain 30)) (plain (pick p.held 22 0))) (plain (pick (leb 32 t.count) 23 0))) where
+  module _ (a : Requests) (to : Addresses) (legal : f.number ≡ 0 → (key_fault k ≡ 0) × (any_of (ask_of a) ≡ true) × ((addresses 15).check to ≡ 0)) (x : Verdict) (e : x ≡ first_of (first_of (pick (well_formed t) f (plain 30)) (plain (pick (is_held p) 22 0))) (plain (pick (leb 32 t.count) 23 0))) where
     -- where it is done: the arguments are fine, the key is free and so is a line
-    pub post-room : x.number ≡ 0 → ((addresses 15).check to ≡ 0) × (p.at ≤ t.count) × (t.count < 32)
+    pub post-room : x.number ≡ 0 → ((addresses 15).check to ≡ 0) × (index_of p ≤ t.count) × (t.count < 32)
     post-room z =
         let b = first_fine _ _ (ap (λ (v : Verdict). v.number) (sym e) ∙ z) in
         let c = first_fine _ _ b.0 in
@@ -146,18 +145,18 @@ module _ (t : Table) (cells : length t.rows ≡ 32) (k : DeclaredKey) (f : Verdi
 
     pub post-acts : (t' : Table) → (eqb x.number 0 ≡ false → t' ≡ t) → (row : Row) →
         (eqb x.number 0 ≡ true → (row.key ≡ k) × (row.asked ≡ a) × (row.count ≤ to.count) × (map recipient_of (used_recipients row) ≡ sort by_address (map (λ y. (address_of y, blank)) (take to.count to.list))) × (all (recipient_fine a) (used_recipients row) ≡ true)) →
-        (eqb x.number 0 ≡ true → (t'.count ≡ t.count + 1) × (used_rows t' ≡ take p.at (used_rows t) ++ row ∷ drop p.at (used_rows t))) →
+        (eqb x.number 0 ≡ true → (t'.count ≡ t.count + 1) × (used_rows t' ≡ take (index_of p) (used_rows t) ++ row ∷ drop (index_of p) (used_rows t))) →
         OnValues (named f (post (key_of k) (make (ask_of a) (map address_of (take to.count to.list))))) t x t'
     unfolding first_of
-    post-acts t' kept row built changed = acts _ t f x t' (λ l. e ∙ ap (λ (v : Verdict). first_of v (plain (pick (leb 32 t.count) 23 0))) (first_some _ _ l) ∙ first_some _ _ l) kept (λ w z. by w z p.held refl (leb 32 t.count) refl)
+    post-acts t' kept row built changed = acts _ t f x t' (λ l. e ∙ ap (λ (v : Verdict). first_of v (plain (pick (leb 32 t.count) 23 0))) (first_some _ _ l) ∙ first_some _ _ l) kept (λ w z. by w z (is_held p) refl (leb 32 t.count) refl)
       where
-        by : well_formed t ≡ true → f.number ≡ 0 → (h : Bool) → p.held ≡ h → (l : Bool) → leb 32 t.count ≡ l → OnValues (inr (post (key_of k) (make (ask_of a) (map address_of (take to.count to.list))))) t x t'
+        by : well_formed t ≡ true → f.number ≡ 0 → (h : Bool) → is_held p ≡ h → (l : Bool) → leb 32 t.count ≡ l → OnValues (inr (post (key_of k) (make (ask_of a) (map address_of (take to.count to.list))))) t x t'
         by w z true h l i =
             let n : x ≡ plain 22 = e ∙ rw (w, z, h) in
-            values-kept _ t t' (plain 22) x n (kept (ne_eqb x.number 0 (λ q. omega (arith, ap (λ (v : Verdict). v.number) n, q)))) (post-twice t cells w k a to p.at no_row (at_place w true h))
+            values-kept _ t t' (plain 22) x n (kept (ne_eqb x.number 0 (λ q. omega (arith, ap (λ (v : Verdict). v.number) n, q)))) (post-twice t cells w k a to (index_of p) no_row (at_place w true h))
         by w z false h true i =
             let n : x ≡ plain 23 = e ∙ rw (w, z, h, i) in
-            values-kept _ t t' (plain 23) x n (kept (ne_eqb x.number 0 (λ q. omega (arith, ap (λ (v : Verdict). v.number) n, q)))) (post-over t cells w k a to p.at (at_place w false h) (few w) (leb-true 32 t.count i))
+            values-kept _ t t' (plain 23) x n (kept (ne_eqb x.number 0 (λ q. omega (arith, ap (λ (v : Verdict). v.number) n, q)))) (post-over t cells w k a to (index_of p) (at_place w false h) (few w) (leb-true 32 t.count i))
         by w z false h false i =
             let n : x ≡ fine = e ∙ rw (w, z, h, i) in
             let g = legal z in
@@ -165,4 +164,4 @@ module _ (t : Table) (cells : length t.rows ≡ 32) (k : DeclaredKey) (f : Verdi
             let u = changed (eq-eqb x.number 0 (ap (λ (v : Verdict). v.number) n)) in
             let good = post-row t cells w k a to g.0 g.1 g.2 row r.0 r.1 r.2 r.3 r.4 in
             subst (λ (m : Verdict). OnValues (inr (post (key_of k) (make (ask_of a) (map address_of (take to.count to.list))))) t m t') (sym n)
-            (post-new t cells w k a to p.at (at_place w false h) (few w) row t' (leb-false 32 t.count i) r.0 r.1 r.3 good u.0 u.1)
+            (post-new t cells w k a to (index_of p) (at_place w false h) (few w) row t' (leb-false 32 t.count i) r.0 r.1 r.3 good u.0 u.1)

@@ -3,9 +3,9 @@
 // refuse, and only then does the first octet change.
 #![tactic(auto)]
 
-ghost use Rattle.std.specs.Prelude.{◌≡◌, true, map, ◌<◌, eqb, length, take};
+ghost use Rattle.std.specs.Prelude.{◌≡◌, true, map, ◌<◌, length, take, MatchResult};
 ghost use Rattle.codec.specs.Answer.{pick};
-ghost use Rattle.codec.specs.Verdict.{plain, first_of};
+ghost use Rattle.codec.specs.Verdict.{plain};
 ghost use Rattle.header.specs.Table.{addresses};
 ghost use Rattle.record_octets.specs.Record.{size_of_address, address_in, size_of_addresses, addresses_in};
 ghost use Rattle.order.specs.Values.{address_of, key_of, key_fault};
@@ -16,7 +16,9 @@ ghost use Rattle.table_octets.specs.Table.{size_of_key, key_in, key_octets, size
 ghost use Rattle.table_octets.specs.Typed.{TypedKey};
 ghost use Rattle.table_octets.specs.Image.{key_image};
 ghost use Rattle.arguments.specs.Arguments.{named};
-ghost use Rattle.arguments.specs.Told.{pending_no, answer_says, answer_place};
+ghost use Rattle.arguments.specs.Told.{answer_says, answer_place};
+ghost use Rattle.table.specs.Search.{Placed};
+ghost use Rattle.table.specs.WellFormed.{well_formed};
 ghost use Rattle.transitions.specs.Transition.{Transition};
 
 use arguments::{Answer, PendingFault, refusal};
@@ -25,43 +27,24 @@ use header::Requests;
 use inspect::inspect;
 use places::{put_row, remove_row};
 use settled::settled_row;
+use table::Position;
 use table_octets::in_table;
 
 mod places;
 mod settled;
 
-fn is_done(a: Answer) -> bool
-    ensures { result ≡ eqb (answer_says a).number 0 }
+// Where the key stands, unless the call is refused before a row is asked: by the table's form first, then by what the arguments alone say.
+fn sought(t: &[u8], key: &[u8], said: Answer) -> Result<Position, Answer>
+    requires { (length t.now ≡ size_of_table) × (length key.now ≡ size_of_key) × (answer_place said ≡ 0) }
+    ensures { MatchResult result (λ p. (well_formed (table_in t.now) ≡ true) × ((answer_says said).number ≡ 0) × Placed (table_in t.now) (key_in key.now) p) (λ x. (answer_says x ≡ pick (well_formed (table_in t.now)) (answer_says said) (plain 30)) × (0 < (answer_says x).number) × (answer_place x ≡ 0)) }
 {
-    match a {
-        Answer::Done => true,
-        Answer::Refused(_, _, _) => false,
-    }
-}
-
-// The answer so far, and one refusal more behind it.
-fn refused_if(said: Answer, fails: bool, fault: PendingFault) -> Answer
-    requires { answer_place said ≡ 0 }
-    ensures { (answer_says result ≡ first_of (answer_says said) (plain (pick fails (pending_no fault) 0))) × (answer_place result ≡ 0) }
-{
-    let Answer::Done = said else {
-        return said;
+    let Some(place) = inspect(t, key) else {
+        return Err(refusal(PendingFault::IllFormed));
     };
-    if fails {
-        return refusal(fault);
-    }
-    Answer::Done
-}
-
-// The first refusal of a call: the table's form, then what the arguments alone say.
-fn judged(well: bool, said: Answer) -> Answer
-    requires { answer_place said ≡ 0 }
-    ensures { (answer_says result ≡ pick well (answer_says said) (plain 30)) × (answer_place result ≡ 0) }
-{
-    if !well {
-        return refusal(PendingFault::IllFormed);
-    }
-    said
+    let Answer::Done = said else {
+        return Err(said);
+    };
+    Ok(place)
 }
 
 // The count of rows.
@@ -77,18 +60,19 @@ pub fn post_row(t: &mut [u8], key: &[u8], asked: Requests, to: &[u8], said: Answ
     requires { (length t.old ≡ size_of_table) × (key.now ≡ key_octets (key_image (key_of (key_in key.now)))) × TypedKey (key_image (key_of (key_in key.now))) × (length to.now ≡ size_of_addresses) × (answer_place said ≡ 0) × ((answer_says said).number ≡ 0 → (key_fault (key_in key.now) ≡ 0) × (any_of (ask_of asked) ≡ true) × ((addresses 15).check (addresses_in to.now) ≡ 0)) }
     ensures { Transition (named (answer_says said) (operation.post (key_of (key_in key.now)) (make (ask_of asked) (map address_of (take (addresses_in to.now).count (addresses_in to.now).list))))) t.old (answer_says result) t.new × (answer_place result ≡ 0) }
 {
-    let seen = inspect(t, key);
-    let first = judged(seen.well, said);
-    let free = refused_if(first, seen.place.held, PendingFault::KeyHeld);
+    let place = match sought(t, key, said) {
+        Ok(place) => place,
+        Err(refused) => return refused,
+    };
+    let Err(at) = place else {
+        return refusal(PendingFault::KeyHeld);
+    };
     let count = row_count(t);
-    let full = 32 <= count;
-    let answer = refused_if(free, full, PendingFault::TableFull);
-    let at = seen.place.at;
-    if !is_done(answer) {
-        return answer;
+    if 32 <= count {
+        return refusal(PendingFault::TableFull);
     }
     put_row(t, count, at, key, asked, to);
-    answer
+    Answer::Done
 }
 
 // The code written in the row with the key, at the answerer, to each open request that it answers.
@@ -96,14 +80,13 @@ pub fn settle_row(t: &mut [u8], key: &[u8], from: &[u8], code: u32, said: Answer
     requires { (length t.old ≡ size_of_table) × (length key.now ≡ size_of_key) × (length from.now ≡ size_of_address) × (answer_place said ≡ 0) × ((answer_says said).number ≡ 0 → 0 < code) }
     ensures { Transition (named (answer_says said) (operation.receipt (key_of (key_in key.now)) (address_of (address_in from.now), code))) t.old (answer_says result) t.new × (answer_place result ≡ 0) }
 {
-    let seen = inspect(t, key);
-    let first = judged(seen.well, said);
-    let there = seen.place.held;
-    let answer = refused_if(first, !there, PendingFault::NoRow);
-    let at = seen.place.at;
-    if !is_done(answer) {
-        return answer;
-    }
+    let place = match sought(t, key, said) {
+        Ok(place) => place,
+        Err(refused) => return refused,
+    };
+    let Ok(at) = place else {
+        return refusal(PendingFault::NoRow);
+    };
     let start = at * in_table::ENTRY;
     let end = start + in_table::ENTRY;
     settled_row(&mut t[start..end], from, code)
@@ -114,15 +97,14 @@ pub fn release_row(t: &mut [u8], key: &[u8], said: Answer) -> Answer
     requires { (length t.old ≡ size_of_table) × (length key.now ≡ size_of_key) × (answer_place said ≡ 0) }
     ensures { Transition (named (answer_says said) (operation.release (key_of (key_in key.now)))) t.old (answer_says result) t.new × (answer_place result ≡ 0) }
 {
-    let seen = inspect(t, key);
-    let first = judged(seen.well, said);
-    let held = seen.place.held;
-    let answer = refused_if(first, !held, PendingFault::NoRow);
-    let at = seen.place.at;
-    if !is_done(answer) {
-        return answer;
-    }
+    let place = match sought(t, key, said) {
+        Ok(place) => place,
+        Err(refused) => return refused,
+    };
+    let Ok(row) = place else {
+        return refusal(PendingFault::NoRow);
+    };
     let count = row_count(t);
-    remove_row(t, count, at);
-    answer
+    remove_row(t, count, row);
+    Answer::Done
 }

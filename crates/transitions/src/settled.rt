@@ -1,5 +1,5 @@
 // A row behind a receipt: the code written to its recipient's cells where they lie.
-ghost use Rattle.std.specs.Prelude.{◌≡◌, true, cond, ◌++◌, ◌<◌, length};
+ghost use Rattle.std.specs.Prelude.{◌≡◌, true, ◌++◌, ◌<◌, length, MatchOption};
 ghost use Rattle.std.proofs.Math.Option.{none, some};
 ghost use Rattle.codec.specs.Verdict.{plain};
 ghost use Rattle.order.specs.Values.{address_of};
@@ -20,20 +20,14 @@ use header::Requests;
 use inspect::well::{RecipientCodes, load_codes};
 use leaves::requests::load_requests;
 use recipients::find_recipient;
-use table::codes::{answers_acknowledge, answers_machine, answers_reply, any_of};
+use table::codes::{answers_acknowledge, answers_machine, answers_reply};
 use table_octets::{in_recipient, in_row};
 
 // Whether a request is asked, answered by the code and still without one.
 fn is_open(asked: bool, answers: bool, old: u32) -> bool
     ensures { result ≡ opens asked answers (code_of old) }
 {
-    if !asked {
-        return false;
-    }
-    if !answers {
-        return false;
-    }
-    old == 0
+    asked && answers && old == 0
 }
 
 // What stands at a request afterwards: a written code stays.
@@ -47,16 +41,10 @@ fn code_after(opened: bool, code: u32, old: u32) -> u32
     old
 }
 
-// A recipient's codes behind a receipt, and whether a request was open to the one that came.
-#[derive(Clone, Copy)]
-struct Settled {
-    opened: bool,
-    codes: RecipientCodes,
-}
-
-fn codes_after(asked: Requests, code: u32, old: RecipientCodes) -> Settled
+// A recipient's codes behind a receipt; none where no request was open to the one that came.
+fn codes_after(asked: Requests, code: u32, old: RecipientCodes) -> Option<RecipientCodes>
     requires { 0 < code }
-    ensures { requests.settle (ask_of asked) code (marks old.machine old.acknowledge old.reply) ≡ cond result.opened (some (marks result.codes.machine result.codes.acknowledge result.codes.reply)) none }
+    ensures { MatchOption result (requests.settle (ask_of asked) code (marks old.machine old.acknowledge old.reply) ≡ none) (λ c. requests.settle (ask_of asked) code (marks old.machine old.acknowledge old.reply) ≡ some (marks c.machine c.acknowledge c.reply)) }
 {
     let machine = is_open(asked.machine, answers_machine(code), old.machine);
     let acknowledge = is_open(
@@ -65,18 +53,14 @@ fn codes_after(asked: Requests, code: u32, old: RecipientCodes) -> Settled
         old.acknowledge,
     );
     let reply = is_open(asked.reply, answers_reply(code), old.reply);
-    let opened = any_of(machine, acknowledge, reply);
-    let first = code_after(machine, code, old.machine);
-    let second = code_after(acknowledge, code, old.acknowledge);
-    let third = code_after(reply, code, old.reply);
-    Settled {
-        opened: opened,
-        codes: RecipientCodes {
-            machine: first,
-            acknowledge: second,
-            reply: third,
-        },
+    if !(machine || acknowledge || reply) {
+        return None;
     }
+    Some(RecipientCodes {
+        machine: code_after(machine, code, old.machine),
+        acknowledge: code_after(acknowledge, code, old.acknowledge),
+        reply: code_after(reply, code, old.reply),
+    })
 }
 
 // The three cells, one behind the other.
@@ -95,15 +79,10 @@ fn settle(asked: Requests, code: u32, x: &mut [u8]) -> bool
     ensures { (result ≡ has_mark (requests.settle (ask_of asked) code (mark_of (recipient_in x.old)))) × (x.new ≡ marked (requests.settle (ask_of asked) code (mark_of (recipient_in x.old))) x.old) }
 {
     let old = load_codes(x);
-    let after = codes_after(asked, code, old);
-    let opened = after.opened;
-    if !opened {
+    let Some(codes) = codes_after(asked, code, old) else {
         return false;
-    }
-    store_codes(
-        &mut x[in_recipient::MACHINE..in_recipient::END],
-        after.codes,
-    );
+    };
+    store_codes(&mut x[in_recipient::MACHINE..in_recipient::END], codes);
     true
 }
 
@@ -115,16 +94,13 @@ pub fn settled_row(r: &mut [u8], from: &[u8], code: u32) -> Answer
 {
     let count = load_word(&r[in_row::COUNT..in_row::END]);
     let place = find_recipient(&r[in_row::RECIPIENTS..in_row::COUNT], count, from);
-    let held = place.held;
-    if !held {
+    let Ok(at) = place else {
         return refusal(PendingFault::NotARecipient);
-    }
+    };
     let asked = load_requests(&r[in_row::ASKED..in_row::UNUSED]);
-    let at = place.at;
     let start = in_row::RECIPIENTS + at * in_row::ENTRY;
     let end = start + in_row::ENTRY;
-    let opened = settle(asked, code, &mut r[start..end]);
-    if !opened {
+    if !settle(asked, code, &mut r[start..end]) {
         return refusal(PendingFault::NothingOpen);
     }
     Answer::Done

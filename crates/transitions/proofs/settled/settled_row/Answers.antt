@@ -28,23 +28,23 @@ lent n = omega arith
 pub find_recipient-place-requires : goal.find_recipient-place-requires
 find_recipient-place-requires c = (search rules, few (goal.at.find_recipient-place-requires c).After-load_word-count, c.requires.1)
 
-pub returns-then-not-held : goal.returns-then-not-held
+pub returns-in_default : goal.returns-in_default
 unfolding pending_no
-returns-then-not-held c = let e = stranger c.args.r.now c.requires.0 c.requires.2 (address_in c.args.from.now) c.args.code c.find_recipient-place.result.at (sought c.args.r.now _ _ _ false _ c.load_word-count.ensures (c.if-not-held.true) c.find_recipient-place.ensures.2) in (c.refusal.ensures.0 ∙ ap plain e.0, c.refusal.ensures.1, e.1)
+returns-in_default c = let e = stranger c.args.r.now c.requires.0 c.requires.2 (address_in c.args.from.now) c.args.code c.in_default.field-0 (sought c.args.r.now _ _ _ false _ c.load_word-count.ensures refl c.in_default.ensures.2) in (c.refusal.ensures.0 ∙ ap plain e.0, c.refusal.ensures.1, e.1)
 
 pub slice_bounds-settle-end : goal.slice_bounds-settle-end
-slice_bounds-settle-end c = let k = few (goal.at.slice_bounds-settle-end c).After-load_word-count in let h = c.find_recipient-place.ensures.1 (c.if-not-held.false) in let l = c.requires.0 in omega arith
+slice_bounds-settle-end c = let k = few (goal.at.slice_bounds-settle-end c).After-load_word-count in let h = c.in-Ok.ensures.1 refl in let l = c.requires.0 in omega arith
 
-pub returns-then-not-opened : goal.returns-then-not-opened
+pub returns-then-not-settle : goal.returns-then-not-settle
 unfolding pending_no
-returns-then-not-opened c =
-    let p = sought c.args.r.now _ _ _ true _ c.load_word-count.ensures (c.if-not-held.false) c.find_recipient-place.ensures.2 in
-    let e = answered c.args.r.now c.requires.0 c.requires.2 (address_in c.args.from.now) c.args.code c.find_recipient-place.result.at p c.load_requests-asked.result (asks (goal.at.returns-then-not-opened c).After-load_requests-asked) _ (lent (116 + c.find_recipient-place.result.at * 92)) c.settle-opened.result c.settle-opened.new.x c.settle-opened.ensures.0 c.settle-opened.ensures.1 in
-    (c.refusal-then-not-opened.ensures.0 ∙ ap plain (sym (e.0 ∙ ap (λ (b : Bool). cond b 0 28) (c.if-not-opened.true))), c.refusal-then-not-opened.ensures.1, e.1)
+returns-then-not-settle c =
+    let p = sought c.args.r.now _ _ _ true _ c.load_word-count.ensures refl c.in-Ok.ensures.2 in
+    let e = answered c.args.r.now c.requires.0 c.requires.2 (address_in c.args.from.now) c.args.code c.in-Ok.at p c.load_requests-asked.result (asks (goal.at.returns-then-not-settle c).After-load_requests-asked) _ (lent (116 + c.in-Ok.at * 92)) c.settle.result c.settle.new.x c.settle.ensures.0 c.settle.ensures.1 in
+    (c.refusal-then-not-settle.ensures.0 ∙ ap plain (sym (e.0 ∙ ap (λ (b : Bool). cond b 0 28) (c.if-not-settle.true))), c.refusal-then-not-settle.ensures.1, e.1)
 
 pub returns : goal.returns
 unfolding answer_says answer_place
 returns c =
-    let p = sought c.args.r.now _ _ _ true _ c.load_word-count.ensures (c.if-not-held.false) c.find_recipient-place.ensures.2 in
-    let e = answered c.args.r.now c.requires.0 c.requires.2 (address_in c.args.from.now) c.args.code c.find_recipient-place.result.at p c.load_requests-asked.result (asks (goal.at.returns c).After-load_requests-asked) _ (lent (116 + c.find_recipient-place.result.at * 92)) c.settle-opened.result c.settle-opened.new.x c.settle-opened.ensures.0 c.settle-opened.ensures.1 in
-    (ap plain (sym (e.0 ∙ ap (λ (b : Bool). cond b 0 28) (c.if-not-opened.false))), refl, e.1)
+    let p = sought c.args.r.now _ _ _ true _ c.load_word-count.ensures refl c.in-Ok.ensures.2 in
+    let e = answered c.args.r.now c.requires.0 c.requires.2 (address_in c.args.from.now) c.args.code c.in-Ok.at p c.load_requests-asked.result (asks (goal.at.returns c).After-load_requests-asked) _ (lent (116 + c.in-Ok.at * 92)) c.settle.result c.settle.new.x c.settle.ensures.0 c.settle.ensures.1 in
+    (ap plain (sym (e.0 ∙ ap (λ (b : Bool). cond b 0 28) (c.if-not-settle.false))), refl, e.1)
