@@ -23,10 +23,7 @@ fn is_receipt(h: &[u8], number: u32) -> bool
     requires { length h.now ≡ size_of_header }
     ensures { result ≡ (block_at (header_in h.now) number).response.present }
 {
-    if number < 1 {
-        return false;
-    }
-    if 16 < number {
+    if number < 1 || 16 < number {
         return false;
     }
     let i = number as usize - 1;
@@ -41,20 +38,17 @@ fn play_block(t: &mut [u8; TABLE], h: &[u8; RECORD], number: u32, count: OctetSi
 {
     if is_receipt(h, number) {
         receipt(t, h, number, count);
-        return;
+    } else {
+        post(t, h, number, count);
     }
-    post(t, h, number, count);
 }
 
 // The calls of a record's blocks, from the first.
 fn play_blocks(t: &mut [u8; TABLE], h: &[u8; RECORD], count: OctetSize)
     ensures { (see (table_in t.new) ≡ rows_of (header_in h.now) count.0 (table_in t.old) (header_in h.now).blocks.count) × (well_formed (table_in t.new) ≡ well_formed (table_in t.old)) }
 {
-    let blocks = block_count(h);
-    let mut i: u32 = 0;
-    while i < blocks {
+    for i in 0..block_count(h) {
         play_block(t, h, i + 1, count);
-        i += 1;
     }
 }
 

@@ -1,5 +1,4 @@
 -- `playing::play_blocks` meets its contract. The invariant: the calls of the first i blocks are made. Assumes nothing.
-use Prim.Native.Nat.{◌-◌}
 use mathlib.Core.Path.{◌≡◌}
 use Rattle.record_octets.specs.Record.{header_in}
 use Rattle.table_octets.specs.Table.{table_in}
@@ -7,7 +6,4 @@ use Rattle.playing.proofs.Playing.{Behind}
 use Rattle.playing.proofs.play_blocks.Given as goal
 
 abbrev pub invariant-loop-i : goal.invariant-loop-i
-invariant-loop-i l = (l.blocks ≡ (header_in l.h).blocks.count) × Behind (header_in l.h) l.count.0 (table_in l.initial.t) l.i (table_in l.t)
-
-abbrev pub decreases-loop-i : goal.decreases-loop-i
-decreases-loop-i l = l.blocks - l.i
+invariant-loop-i l = (l.i-end ≡ (header_in l.h).blocks.count) × Behind (header_in l.h) l.count.0 (table_in l.initial.t) l.i (table_in l.t)
