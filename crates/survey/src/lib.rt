@@ -1,7 +1,7 @@
 // One look at the message blocks of a record where they lie: at each block's fields, the rules, its size and its bits.
 #![tactic(auto)]
 
-ghost use Rattle.std.specs.Prelude.{◌≡◌, true, ◌+◌, length};
+ghost use Rattle.std.specs.Prelude.{◌≡◌, true, ◌+◌, length, IfOk};
 ghost use Rattle.codec.specs.Refusals.{check_no, finding_says};
 ghost use Rattle.codec.specs.Writes.{Placed};
 ghost use Rattle.header.specs.Sizes.{judgement};
@@ -12,7 +12,7 @@ ghost use Rattle.rules.specs.Sees.{Sees, concluded};
 use bits::{BitPlace, OctetSize};
 use cells::{entry, load_word};
 use checker::block::check_block;
-use codec::{BlockNumber, Check, Fault, Finding};
+use codec::{BlockFault, BlockNumber, Fault};
 use ends::block::end_block;
 use flag::end_flag;
 use header::Setting;
@@ -27,12 +27,10 @@ pub struct Found {
     pub end: BitPlace,
 }
 
-// What all fields show: the first fault of one; where there is none, what the rules and the sizes say, and the place
-// behind the blocks.
+// What legal blocks show: what the rules and the sizes say, and the place behind the blocks.
 #[derive(Clone, Copy)]
 pub struct Survey {
-    pub fault: Check,
-    pub finding: Finding,
+    pub finding: Result<(), BlockFault>,
     pub end: BitPlace,
 }
 
@@ -48,41 +46,16 @@ fn look(
     requires { Placed f.end.0 (1 + (block version).size (block_in b.now)) × ((block version).check (block_in b.now) ≡ 0) × (length b.now ≡ size_of_block) }
     ensures { Sees x alone.0 number.0 (block_in b.now) f.seen result.seen × (result.end.0 ≡ (f.end.0 + 1) + (block version).size (block_in b.now)) }
 {
-    let seen = see(f.seen, x, b, number, alone);
     let behind = end_flag(f.end);
-    let end = end_block(behind, version, b);
     Found {
-        seen: seen,
-        end: end,
-    }
-}
-
-// The survey that a fault ends.
-pub fn broken_off(fault: Check) -> Survey
-    ensures { result.fault ≡ fault }
-{
-    Survey {
-        fault: fault,
-        finding: Finding::Fine,
-        end: BitPlace(0),
-    }
-}
-
-// The survey of legal blocks. The header size is written as it has to be, so that it holds.
-fn complete(f: Found) -> Survey
-    ensures { (check_no result.fault ≡ 0) × (finding_says result.finding ≡ concluded true f.seen) × (result.end ≡ f.end) }
-{
-    let finding = conclude(f.seen, true);
-    let end = f.end;
-    Survey {
-        fault: Check::Fine,
-        finding: finding,
-        end: end,
+        seen: see(f.seen, x, b, number, alone),
+        end: end_block(behind, version, b),
     }
 }
 
 // The entries of a list of 1 to 16 blocks of a record of that version, in a setting, with so many octets of user data,
-// from a place on that leaves room for the longest, 16 times 3,316 bits with their recurrence bits.
+// from a place on that leaves room for the longest, 16 times 3,316 bits with their recurrence bits. The error is
+// the first fault of a field. The header size is written as it has to be, so that it holds.
 fn survey_entries(
     version: u32,
     x: Setting,
@@ -90,39 +63,42 @@ fn survey_entries(
     held: u32,
     octets: OctetSize,
     at: BitPlace,
-) -> Survey
+) -> Result<Survey, Fault>
     requires { Placed at.0 53056 × (length list.now ≡ size_of_blocks_list) }
-    ensures { (check_no result.fault ≡ (blocks version).check (blocks_of list.now held)) × ((blocks version).check (blocks_of list.now held) ≡ 0 → (finding_says result.finding ≡ judgement x true octets.0 (blocks_of list.now held)) × (result.end.0 ≡ at.0 + (blocks version).size (blocks_of list.now held))) }
+    ensures fields { check_no result ≡ (blocks version).check (blocks_of list.now held) }
+    ensures found { IfOk result (λ s. (finding_says s.finding ≡ judgement x true octets.0 (blocks_of list.now held)) × (s.end.0 ≡ at.0 + (blocks version).size (blocks_of list.now held))) }
 {
     let count = held as usize;
-    if 16 < count {
-        return broken_off(Check::Bad(Fault::Count));
-    }
-    if count == 0 {
-        return broken_off(Check::Bad(Fault::Count));
+    if 16 < count || count == 0 {
+        return Err(Fault::Count);
     }
     let alone = alone_share(count, octets);
     let mut found = Found {
         seen: unseen(x, octets),
         end: at,
     };
-    let mut i: usize = 0;
-    while i < count {
+    for i in 0..count {
         let b = entry(list, i, in_blocks::ENTRY);
-        let c = check_block(version, b);
-        let Check::Fine = c else {
-            return broken_off(c);
-        };
-        i += 1;
-        found = look(found, version, x, b, BlockNumber(i as u32), alone);
+        check_block(version, b)?;
+        found = look(found, version, x, b, BlockNumber(i as u32 + 1), alone);
     }
-    complete(found)
+    Ok(Survey {
+        finding: conclude(found.seen, true),
+        end: found.end,
+    })
 }
 
 // The blocks of a record of that version.
-pub fn survey_blocks(version: u32, x: Setting, g: &[u8], octets: OctetSize, at: BitPlace) -> Survey
+pub fn survey_blocks(
+    version: u32,
+    x: Setting,
+    g: &[u8],
+    octets: OctetSize,
+    at: BitPlace,
+) -> Result<Survey, Fault>
     requires { Placed at.0 53056 × (length g.now ≡ size_of_blocks) }
-    ensures { (check_no result.fault ≡ (blocks version).check (blocks_in g.now)) × ((blocks version).check (blocks_in g.now) ≡ 0 → (finding_says result.finding ≡ judgement x true octets.0 (blocks_in g.now)) × (result.end.0 ≡ at.0 + (blocks version).size (blocks_in g.now))) }
+    ensures fields { check_no result ≡ (blocks version).check (blocks_in g.now) }
+    ensures found { IfOk result (λ s. (finding_says s.finding ≡ judgement x true octets.0 (blocks_in g.now)) × (s.end.0 ≡ at.0 + (blocks version).size (blocks_in g.now))) }
 {
     let count = load_word(&g[in_blocks::COUNT..in_blocks::END]);
     survey_entries(

@@ -8,4 +8,4 @@ survey_entries-requires c = (c.requires.0, search rules)
 
 pub returns : goal.returns
 unfolding blocks_in
-returns c = rw c.load_word-count.ensures at c.survey_entries.ensures
+returns c = record { fields = rw c.load_word-count.ensures at c.survey_entries.ensures.fields; found = rw c.load_word-count.ensures at c.survey_entries.ensures.found }
