@@ -4,8 +4,7 @@ use mathlib.Core.Path.{◌≡◌, sym, subst, ◌∙◌}
 use mathlib.Core.List.{List}
 use Rattle.codec.specs.Verdict.{Verdict}
 use Rattle.order.specs.Calls.{Call}
-use Rattle.arguments.specs.Told.{answer_says, answer_place}
-use Rattle.arguments.specs.declared.Answer.{Answer}
+use Rattle.arguments.specs.Told.{Answer, answer_says, answer_place}
 use Rattle.transitions.specs.Transition.{Transition}
 use Rattle.answers.specs.Numbers.{table_says}
 use Rattle.answers.specs.declared.TableAnswer.{TableAnswer}

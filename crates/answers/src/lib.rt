@@ -8,12 +8,10 @@ ghost use Rattle.arguments.specs.Told.{answer_says, answer_place};
 ghost use Rattle.listing.specs.Listing as listing;
 ghost use Rattle.answers.specs.Numbers.{sized, refused_by, read_numbers, write_numbers, list_numbers, table_says};
 
-use arguments::{Answer, pending_number};
+use arguments::Answer;
 use bits::{BitPlace, OctetSize};
-use codec::{BlockNumber, fault_number};
-use listing::{Listed, ListingFault};
-use reader::{HeaderRead, Outcome};
-use writer::Written;
+use codec::{BlockNumber, Fault, Refusal};
+use listing::ListingFault;
 
 // Reading, the check, writing and the listing: number 0 and a size in octets; or a refusal's number, block and place,
 // and size 0.
@@ -35,16 +33,6 @@ pub struct TableAnswer {
     pub place: usize,
 }
 
-// The number of a refusal of the listing.
-fn listing_number(f: ListingFault) -> u32
-    ensures { result ≡ listing.listing_no f }
-{
-    match f {
-        ListingFault::NoRoom => 11,
-        ListingFault::IllFormed => 30,
-    }
-}
-
 // A size in octets, and no refusal.
 fn size(octets: OctetSize) -> SizeAnswer
     ensures { result ≡ sized octets.0 }
@@ -62,59 +50,51 @@ fn refused(number: u32, place: BitPlace, block: BlockNumber) -> SizeAnswer
     ensures { result ≡ refused_by number place.0 block.0 }
 {
     SizeAnswer {
-        number: number,
+        number,
         block: block.0,
         place: place.0,
         length: 0,
     }
 }
 
-pub fn of_writing(w: Written) -> SizeAnswer
-    ensures { result ≡ write_numbers (writer.told w) }
+pub fn of_writing(answer: Result<OctetSize, Refusal<Fault>>) -> SizeAnswer
+    ensures { result ≡ write_numbers (writer.told answer) }
 {
-    match w {
-        Written::Done(n) => size(n),
-        Written::Refused(fault, place, block) => refused(fault_number(fault), place, block),
+    match answer {
+        Ok(octets) => size(octets),
+        Err(e) => refused(u32::from(e.fault), e.place, e.block),
     }
 }
 
-pub fn of_listing(l: Listed) -> SizeAnswer
-    ensures { result ≡ list_numbers (listing.told l) }
+// Reading tells a size or a refusal as writing does.
+pub fn of_reading(answer: Result<OctetSize, Refusal<Fault>>) -> SizeAnswer
+    ensures { result ≡ read_numbers (told answer) }
 {
-    match l {
-        Listed::Done(n) => size(n),
-        Listed::Refused(fault, place, block) => refused(listing_number(fault), place, block),
+    of_writing(answer)
+}
+
+pub fn of_listing(answer: Result<OctetSize, Refusal<ListingFault>>) -> SizeAnswer
+    ensures { result ≡ list_numbers (listing.told answer) }
+{
+    match answer {
+        Ok(octets) => size(octets),
+        Err(e) => refused(u32::from(e.fault), e.place, e.block),
     }
 }
 
-pub fn of_reading(a: HeaderRead) -> SizeAnswer
-    ensures { result ≡ read_numbers (told a) }
+pub fn of_call(answer: Answer) -> TableAnswer
+    ensures { (table_says result ≡ answer_says answer) × (result.place ≡ answer_place answer) }
 {
-    let outcome = a.outcome;
-    match outcome {
-        Outcome::Done => size(a.length),
-        Outcome::Refused(fault, place, block) => SizeAnswer {
-            number: fault_number(fault),
-            block: block.0,
-            place: place.0,
-            length: a.length.0,
-        },
-    }
-}
-
-pub fn of_call(a: Answer) -> TableAnswer
-    ensures { (table_says result ≡ answer_says a) × (result.place ≡ answer_place a) }
-{
-    match a {
-        Answer::Done => TableAnswer {
+    match answer {
+        Ok(()) => TableAnswer {
             number: 0,
             block: 0,
             place: 0,
         },
-        Answer::Refused(fault, place, block) => TableAnswer {
-            number: pending_number(fault),
-            block: block.0,
-            place: place.0,
+        Err(e) => TableAnswer {
+            number: u32::from(e.fault),
+            block: e.block.0,
+            place: e.place.0,
         },
     }
 }

@@ -6,57 +6,29 @@ use mathlib.Core.List.{List, [], ◌∷◌}
 use lib.ListN.{length, get_or}
 use lib.Dec.{lit<}
 use native.Mathlib.Omega.{arith}
-use denote.Enum.Declared.{tag_of}
 use Rattle.codec.specs.Answer.{pick}
 use Rattle.codec.specs.Codec.{first, viewed}
 use Rattle.codec.specs.Refusals.{check_no, fault_no}
-use Rattle.codec.specs.declared.Check.{Check}
-use Rattle.codec.specs.contracts.Check as check
 use Rattle.codec.specs.declared.Fault.{Fault}
-use Rattle.codec.specs.declared.BlockNumber.{BlockNumber}
+use Rattle.codec.specs.declared.Refusal.{Refusal}
+use Rattle.std.specs.Prelude.{Result, Ok, Err, IsErrAnd, ⊤}
+use Rattle.std.proofs.lemmas.Result.{err_from_is_err_and}
+use Rattle.bits.specs.declared.OctetSize.{OctetSize}
 use Rattle.codec.specs.Verdict.{Verdict, in_block, plain, fine, first_of}
 use Rattle.codec.proofs.Verdicts.{first-none, first_some, first_fine}
 use Rattle.codec.proofs.Told.{fault-positive, first-refusal}
 use Rattle.codec.proofs.ListEnds.{count_most}
-use Rattle.bits.specs.declared.BitPlace.{BitPlace}
 use Rattle.header.specs.declared.Block.{Block}
 use Rattle.header.specs.declared.Header.{Header}
 use Rattle.writer.specs.Writing.{Writing, done, rejected, answered, checking, fields_fault, record_verdict, fault_of, header_size, told}
-use Rattle.writer.specs.declared.Written.{Written}
-use Rattle.writer.specs.contracts.Written as written
 use Rattle.writer.proofs.Ways.{not_done, answer-done, valid-fields}
 use Rattle.writer.proofs.Parts.{blocks-legal}
 use Rattle.header.specs.Table.{block, blocks}
 use Rattle.header.specs.Zero.{no_block}
 use Rattle.arguments.specs.Arguments.{has_block, block_at}
-use Rattle.arguments.specs.Told.{pending_no, answer_says, written_says}
+use Rattle.arguments.specs.Told.{Answer, pending_no, answer_says, answer_place, written_says}
 use Rattle.arguments.specs.declared.PendingFault.{PendingFault}
 use Rattle.arguments.specs.declared.PendingFault.TheVariants.{Record, NothingAsked, NoRecipient, KeyHeld, TableFull, NoResponse, NotOneRecipient, NoRow, NotARecipient, NothingOpen, NoBlock, IllFormed}
-use Rattle.arguments.specs.declared.Answer.{Answer}
-use Rattle.arguments.specs.contracts.Answer as answer
-
--- ---- tests of flags
-
-pub no-first : (p x : Bool) → p ≡ false → false ≡ (p && x)
-no-first p x e = rw e
-
-pub by-second : (p x : Bool) → p ≡ true → x ≡ (p && x)
-by-second p x e = rw e
-
-pub no_second : (p q x : Bool) → p ≡ true → q ≡ false → false ≡ (p && (q && x))
-no_second p q x e f = rw (e, f)
-
-pub by-third : (p q x : Bool) → p ≡ true → q ≡ true → x ≡ (p && (q && x))
-by-third p q x e f = rw (e, f)
-
-pub asks-first : (p m o x : Bool) → p ≡ true → m ≡ true → true ≡ (p && ((m || o) || x))
-asks-first p m o x e f = rw (e, f)
-
-pub asks-second : (p m o x : Bool) → p ≡ true → m ≡ false → o ≡ true → true ≡ (p && ((m || o) || x))
-asks-second p m o x e f g = rw (e, f, g)
-
-pub asks-third : (p m o x : Bool) → p ≡ true → m ≡ false → o ≡ false → x ≡ (p && ((m || o) || x))
-asks-third p m o x e f g = rw (e, f, g)
 
 -- a cell of a list does not depend on what stands for a missing one
 pub any-default : {A : Type 0} (l : List A) (i : ℕ) (d e : A) → i < length l → get_or l i d ≡ get_or l i e
@@ -89,32 +61,32 @@ refused_says : Writing → Verdict
 refused_says (done m) = fine
 refused_says (rejected g q i) = in_block i g
 
-pub written-says : (h : Header) (count : ℕ) (w : Written) → told w ≡ checking h count → written_says w ≡ fault_of h count
+pub written-says : (h : Header) (count : ℕ) (w : Result OctetSize (Refusal Fault)) → told w ≡ checking h count → written_says w ≡ fault_of h count
 unfolding checking told written_says answered refused_says
-written-says h count (Written.Done m) e = fault-fine h count (answer-done (fault_of h count) (header_size h) m.0 (sym e)).0
-written-says h count (Written.Refused f p b) e = go (fault_of h count).number (fault_of h count).block e
+written-says h count (Ok m) e = fault-fine h count (answer-done (fault_of h count) (header_size h) m.0 (sym e)).0
+written-says h count (Err r) e = go (fault_of h count).number (fault_of h count).block e
   where
-    go : (k i : ℕ) → rejected (fault_no f) p.0 b.0 ≡ answered (in_block i k) (header_size h) → in_block b.0 (fault_no f) ≡ in_block i k
+    go : (k i : ℕ) → rejected (fault_no r.fault) r.place.0 r.block.0 ≡ answered (in_block i k) (header_size h) → in_block r.block.0 (fault_no r.fault) ≡ in_block i k
     go zero i d = not_done (sym d)
     go (suc k) i d = ap refused_says d
 
-pub written-fine : (w : Written) → tag_of written.the_type w ≡ 0 → fine ≡ written_says w
-unfolding written_says
-written-fine (Written.Done n) t = refl
-written-fine (Written.Refused f p b) t = absurd (omega arith)
-
 -- a valid record
-pub written-valid : (h : Header) (count : ℕ) (w : Written) → told w ≡ checking h count → tag_of written.the_type w ≡ 0 → (fault_of h count).number ≡ 0
-written-valid h count w e t = ap (λ (v : Verdict). v.number) (sym (written-says h count w e) ∙ sym (written-fine w t))
-
-pub written-bad : (w : Written) → tag_of written.the_type w ≡ 1 → 0 < (written_says w).number
+pub written-valid : (h : Header) (count : ℕ) (n : OctetSize) → told (Ok n) ≡ checking h count → (fault_of h count).number ≡ 0
 unfolding written_says
-written-bad (Written.Done n) t = absurd (omega arith)
-written-bad (Written.Refused f p b) t = fault-positive f
+written-valid h count n e = ap (λ (v : Verdict). v.number) (sym (written-says h count (Ok n) e))
 
-pub written-fault : (w : Written) (f : Fault) (p : BitPlace) (b : BlockNumber) → w ≡ Written.Refused f p b → in_block b.0 (fault_no f) ≡ written_says w
-unfolding written_says
-written-fault w f p b e = rw e
+-- a record that is refused, and the call with it
+module _ (h : Header) (count : ℕ) (e : Refusal Fault) (t : told (Err e) ≡ checking h count) where
+  pub written-bad : 0 < (fault_of h count).number
+  unfolding written_says
+  written-bad = omega (arith, fault-positive e.fault, ap (λ (v : Verdict). v.number) (written-says h count (Err e) t))
+
+  pub record-says : (r : Answer) → IsErrAnd r (λ y. (pending_no y.fault ≡ fault_no e.fault) × (y.place.0 ≡ 0) × (y.block ≡ e.block)) → (answer_says r ≡ fault_of h count) × (answer_place r ≡ 0)
+  unfolding answer_says answer_place written_says
+  record-says r k =
+      let p = err_from_is_err_and r k in
+      let s : in_block e.block.0 (fault_no e.fault) ≡ fault_of h count = written-says h count (Err e) t in
+      rw p.1 ((λ i. in_block (p.2.2 i).0 (p.2.0 i)) ∙ s, p.2.1)
 
 -- ---- a record's refusal, then 29 for the block, y for its group and z for the addressees
 
@@ -144,28 +116,15 @@ module _ (f : Verdict) (a b c : Bool) (y z : ℕ) where
         unfolding first first_of
         at_none d = rw (e, t, u, d)
 
--- ---- a key's check
-
-pub check-fine : (x : Check) → tag_of check.the_type x ≡ 0 → fine ≡ plain (check_no x)
-unfolding check_no
-check-fine Check.Fine t = refl
-check-fine (Check.Bad f) t = absurd (omega arith)
-
-pub check-bad : (x : Check) → tag_of check.the_type x ≡ 1 → 0 < check_no x
-unfolding check_no
-check-bad Check.Fine t = absurd (omega arith)
-check-bad (Check.Bad f) t = fault-positive f
-
-pub check-fault : (x : Check) (f : Fault) → x ≡ Check.Bad f → plain (fault_no f) ≡ plain (check_no x)
-unfolding check_no
-check-fault x f e = rw e
-
 -- ---- an answer
 
-pub done-says : (x : Answer) → tag_of answer.the_type x ≡ 0 → answer_says x ≡ fine
-unfolding answer_says
-done-says Answer.Done t = refl
-done-says (Answer.Refused f p b) t = absurd (omega arith)
+pub plain-says : (f : PendingFault) (y : Refusal PendingFault) → (y.fault ≡ f) × (y.place.0 ≡ 0) × (y.block.0 ≡ 0) → (answer_says (Err y) ≡ plain (pending_no f)) × (answer_place (Err y) ≡ 0)
+unfolding answer_says answer_place
+plain-says f y h = (λ i. in_block (h.2 i) (pending_no (h.0 i)), h.1)
+
+pub key-says : (f : Fault) (r : Answer) → IsErrAnd r (λ y. (pending_no y.fault ≡ fault_no f) × (y.place.0 ≡ 0) × (y.block.0 ≡ 0)) → (answer_says r ≡ plain (fault_no f)) × (answer_place r ≡ 0)
+unfolding answer_says answer_place
+key-says f r k = let p = err_from_is_err_and r k in rw p.1 (λ i. in_block (p.2.2 i) (p.2.0 i), p.2.1)
 
 pub fault-no : (f : PendingFault) → 0 < pending_no f
 unfolding pending_no
@@ -182,7 +141,6 @@ fault-no NothingOpen = lit< tt
 fault-no NoBlock = lit< tt
 fault-no IllFormed = lit< tt
 
-pub answer-bad : (x : Answer) → tag_of answer.the_type x ≡ 1 → 0 < (answer_says x).number
+pub answer-bad : (e : Refusal PendingFault) → 0 < (answer_says (Err e)).number
 unfolding answer_says
-answer-bad Answer.Done t = absurd (omega arith)
-answer-bad (Answer.Refused f p b) t = fault-no f
+answer-bad e = fault-no e.fault

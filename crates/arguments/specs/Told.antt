@@ -1,46 +1,26 @@
 -- What the answers of posting, receipt and release tell: the number, 0 for done, the block, and the place, which is 0.
-use Rattle.std.specs.Prelude.{ℕ}
+use Rattle.std.specs.Prelude.{ℕ, Result, Ok, Err, ⊤}
+use Rattle.bits.specs.declared.OctetSize.{OctetSize}
 use Rattle.codec.specs.Refusals.{fault_no}
 use Rattle.codec.specs.Verdict.{Verdict, in_block, fine}
-use Rattle.writer.specs.declared.Written.{Written}
+use Rattle.codec.specs.declared.Fault.{Fault}
+use Rattle.codec.specs.declared.Refusal.{Refusal}
 use Rattle.arguments.specs.declared.PendingFault.{PendingFault}
-use Rattle.arguments.specs.declared.PendingFault.TheVariants.{Record, NothingAsked, NoRecipient, KeyHeld, TableFull, NoResponse, NotOneRecipient, NoRow, NotARecipient, NothingOpen, NoBlock, IllFormed}
-use Rattle.arguments.specs.declared.Answer.{Answer}
+pub use Rattle.arguments.specs.Numbers.{pending_no}
 
--- document 01's number of a refusal
-unfoldable pub pending_no : PendingFault → ℕ
--- the record's own, or the key's
-pending_no (Record f) = fault_no f
--- no G7, or none of its requests is set
-pending_no NothingAsked = 20
-pending_no NoRecipient = 21
-pending_no KeyHeld = 22
--- all 32 rows are held
-pending_no TableFull = 23
--- no G8
-pending_no NoResponse = 24
--- G1 is absent, or G2 has no entry or several
-pending_no NotOneRecipient = 25
--- no row has the key
-pending_no NoRow = 26
--- the answerer is no recipient of the row
-pending_no NotARecipient = 27
--- no open request that the code answers
-pending_no NothingOpen = 28
--- no such block, counted from 1
-pending_no NoBlock = 29
--- the table is not well formed
-pending_no IllFormed = 30
+-- the answer of a call: the name of `src/` for this type
+abbrev pub Answer : Type 0
+Answer = Result ⊤ (Refusal PendingFault)
 
 unfoldable pub answer_says : Answer → Verdict
-answer_says Answer.Done = fine
-answer_says (Answer.Refused f p b) = in_block b.0 (pending_no f)
+answer_says (Ok u) = fine
+answer_says (Err e) = in_block e.block.0 (pending_no e.fault)
 
 unfoldable pub answer_place : Answer → ℕ
-answer_place Answer.Done = 0
-answer_place (Answer.Refused f p b) = p.0
+answer_place (Ok u) = 0
+answer_place (Err e) = e.place.0
 
 -- the number and the block in the writer's answer
-unfoldable pub written_says : Written → Verdict
-written_says (Written.Done n) = fine
-written_says (Written.Refused f p b) = in_block b.0 (fault_no f)
+unfoldable pub written_says : Result OctetSize (Refusal Fault) → Verdict
+written_says (Ok n) = fine
+written_says (Err e) = in_block e.block.0 (fault_no e.fault)

@@ -10,11 +10,10 @@ ghost use Rattle.arguments.specs.Told.{pending_no, answer_says, answer_place, wr
 
 use bits::{BitPlace, OctetSize};
 use cells::{entry, load_flag, load_word};
-use codec::{BlockNumber, Check, Fault, fault_number};
+use codec::{Fault, Refusal};
 use leaves::block::{asks_acknowledge, asks_machine, asks_reply, has_requests, has_response};
 use leaves::setting::{block_count, has_originator};
 use record_octets::{RECORD, in_addresses, in_blocks, in_front, in_header, in_optional_addresses};
-use writer::Written;
 
 pub mod parts;
 
@@ -36,61 +35,65 @@ pub enum PendingFault {
 }
 
 // The number of a refusal.
-#[tactic(auto, unfolding(crate::specs::Told::pending_no))]
-pub fn pending_number(f: PendingFault) -> u32
-    ensures { result ≡ pending_no f }
-{
-    match f {
-        PendingFault::Record(fault) => fault_number(fault),
-        PendingFault::NothingAsked => 20,
-        PendingFault::NoRecipient => 21,
-        PendingFault::KeyHeld => 22,
-        PendingFault::TableFull => 23,
-        PendingFault::NoResponse => 24,
-        PendingFault::NotOneRecipient => 25,
-        PendingFault::NoRow => 26,
-        PendingFault::NotARecipient => 27,
-        PendingFault::NothingOpen => 28,
-        PendingFault::NoBlock => 29,
-        PendingFault::IllFormed => 30,
+impl From<PendingFault> for u32 {
+    ghost from_gives = { λ f n. n ≡ pending_no f };
+
+    fn from(f: PendingFault) -> u32 {
+        match f {
+            PendingFault::Record(fault) => u32::from(fault),
+            PendingFault::NothingAsked => 20,
+            PendingFault::NoRecipient => 21,
+            PendingFault::KeyHeld => 22,
+            PendingFault::TableFull => 23,
+            PendingFault::NoResponse => 24,
+            PendingFault::NotOneRecipient => 25,
+            PendingFault::NoRow => 26,
+            PendingFault::NotARecipient => 27,
+            PendingFault::NothingOpen => 28,
+            PendingFault::NoBlock => 29,
+            PendingFault::IllFormed => 30,
+        }
     }
 }
 
-// The answer of a call: done, or refused with the kind of fault, the place, which is always 0, and the block, 0 where
-// the refusal is about none.
-#[derive(Clone, Copy)]
-pub enum Answer {
-    Done,
-    Refused(PendingFault, BitPlace, BlockNumber),
-}
+// A record's own refusal, by the writer's check; it tells its block.
+impl From<Refusal<Fault>> for Refusal<PendingFault> {
+    ghost from_gives = { λ e r. (pending_no r.fault ≡ fault_no e.fault) × (r.place.0 ≡ 0) × (r.block ≡ e.block) };
 
-// A refusal that is about no block.
-pub fn refusal(fault: PendingFault) -> Answer
-    ensures { (answer_says result ≡ plain (pending_no fault)) × (answer_place result ≡ 0) }
-{
-    Answer::Refused(fault, BitPlace(0), BlockNumber(0))
-}
-
-// The writer's answer on the record.
-fn by_record(w: Written) -> Answer
-    ensures { (answer_says result ≡ written_says w) × (answer_place result ≡ 0) }
-{
-    match w {
-        Written::Done(_) => Answer::Done,
-        Written::Refused(fault, _, block) => {
-            Answer::Refused(PendingFault::Record(fault), BitPlace(0), block)
+    fn from(e: Refusal<Fault>) -> Refusal<PendingFault> {
+        Refusal {
+            fault: PendingFault::Record(e.fault),
+            place: BitPlace(0),
+            block: e.block,
         }
     }
 }
 
 // A key's own fault.
-pub fn by_check(fault: Check) -> Answer
-    ensures { (answer_says result ≡ plain (check_no fault)) × (answer_place result ≡ 0) }
-{
-    match fault {
-        Check::Fine => Answer::Done,
-        Check::Bad(f) => refusal(PendingFault::Record(f)),
+impl From<Fault> for Refusal<PendingFault> {
+    ghost from_gives = { λ f r. (pending_no r.fault ≡ fault_no f) × (r.place.0 ≡ 0) × (r.block.0 ≡ 0) };
+
+    fn from(fault: Fault) -> Refusal<PendingFault> {
+        Refusal::from(PendingFault::Record(fault))
     }
+}
+
+// The answer of a call: done, or refused. The place is always 0, and the block is 0 where the refusal is about none.
+pub type Answer = Result<(), Refusal<PendingFault>>;
+
+// A refusal that is about no block.
+pub fn refusal(fault: PendingFault) -> Answer
+    ensures { (answer_says result ≡ plain (pending_no fault)) × (answer_place result ≡ 0) }
+{
+    Err(Refusal::from(fault))
+}
+
+// What a key's own check says.
+pub fn by_check(checked: Result<(), Fault>) -> Answer
+    ensures { (answer_says result ≡ plain (check_no checked)) × (answer_place result ≡ 0) }
+{
+    checked?;
+    Ok(())
 }
 
 // Whether there is a block with this number, counted from 1.
@@ -98,21 +101,14 @@ pub fn has_block(h: &[u8], number: u32) -> bool
     requires { length h.now ≡ size_of_header }
     ensures { result ≡ has_block (header_in h.now) number }
 {
-    let count = block_count(h);
-    if number < 1 {
-        return false;
-    }
-    number <= count
+    1 <= number && number <= block_count(h)
 }
 
 // The cell of a block's number, counted from 0; the first for a number that no block has.
 fn cell_of(number: u32) -> usize
     ensures { (result < 16) × (1 ≤ number → number ≤ 16 → result + 1 ≡ number) }
 {
-    if number < 1 {
-        return 0;
-    }
-    if 16 < number {
+    if number < 1 || 16 < number {
         return 0;
     }
     number as usize - 1
@@ -125,8 +121,7 @@ pub fn block_at(h: &[u8], number: u32) -> &[u8]
 {
     let blocks = &h[in_header::BLOCKS..in_header::END];
     let list = &blocks[in_blocks::LIST..in_blocks::COUNT];
-    let i = cell_of(number);
-    entry(list, i, in_blocks::ENTRY)
+    entry(list, cell_of(number), in_blocks::ENTRY)
 }
 
 // Whether any request of G7 is set.
@@ -134,16 +129,7 @@ pub fn asks_any(b: &[u8]) -> bool
     requires { length b.now ≡ size_of_block }
     ensures { result ≡ asks (block_in b.now) }
 {
-    if !has_requests(b) {
-        return false;
-    }
-    if asks_machine(b) {
-        return true;
-    }
-    if asks_acknowledge(b) {
-        return true;
-    }
-    asks_reply(b)
+    has_requests(b) && (asks_machine(b) || asks_acknowledge(b) || asks_reply(b))
 }
 
 // G2.
@@ -170,11 +156,7 @@ pub fn some_recipient(h: &[u8]) -> bool
     requires { length h.now ≡ size_of_header }
     ensures { result ≡ some_recipient (header_in h.now) }
 {
-    if !has_recipients(h) {
-        return false;
-    }
-    let count = recipient_count(h);
-    1 <= count
+    has_recipients(h) && 1 <= recipient_count(h)
 }
 
 // Whether a receipt has an originator and exactly one entry in G2.
@@ -182,14 +164,7 @@ pub fn one_recipient(h: &[u8]) -> bool
     requires { length h.now ≡ size_of_header }
     ensures { result ≡ ((header_in h.now).front.originator.present && one_recipient (header_in h.now)) }
 {
-    if !has_originator(h) {
-        return false;
-    }
-    if !has_recipients(h) {
-        return false;
-    }
-    let count = recipient_count(h);
-    count == 1
+    has_originator(h) && has_recipients(h) && recipient_count(h) == 1
 }
 
 // A posting's arguments, its block at hand: the record's own refusals, then 29, 20 and 21.
@@ -197,10 +172,7 @@ pub fn check_posting(h: &[u8; RECORD], block: &[u8], number: u32, count: OctetSi
     requires { (length block.now ≡ size_of_block) × (has_block (header_in h.now) number ≡ true → (header_in h.now).blocks.count ≤ 16 → block_in block.now ≡ block_at (header_in h.now) number) }
     ensures { (answer_says result ≡ posting_fault (header_in h.now) number count.0) × (answer_place result ≡ 0) }
 {
-    let valid = writer::check(h, count);
-    let Written::Done(_) = valid else {
-        return by_record(valid);
-    };
+    writer::check(h, count)?;
     if !has_block(h, number) {
         return refusal(PendingFault::NoBlock);
     }
@@ -210,7 +182,7 @@ pub fn check_posting(h: &[u8; RECORD], block: &[u8], number: u32, count: OctetSi
     if !some_recipient(h) {
         return refusal(PendingFault::NoRecipient);
     }
-    Answer::Done
+    Ok(())
 }
 
 // A receipt's arguments, its block at hand: the record's own refusals, then 29, 24 and 25.
@@ -218,10 +190,7 @@ pub fn check_receipt(h: &[u8; RECORD], block: &[u8], number: u32, count: OctetSi
     requires { (length block.now ≡ size_of_block) × (has_block (header_in h.now) number ≡ true → (header_in h.now).blocks.count ≤ 16 → block_in block.now ≡ block_at (header_in h.now) number) }
     ensures { (answer_says result ≡ receipt_fault (header_in h.now) number count.0) × (answer_place result ≡ 0) }
 {
-    let valid = writer::check(h, count);
-    let Written::Done(_) = valid else {
-        return by_record(valid);
-    };
+    writer::check(h, count)?;
     if !has_block(h, number) {
         return refusal(PendingFault::NoBlock);
     }
@@ -231,5 +200,5 @@ pub fn check_receipt(h: &[u8; RECORD], block: &[u8], number: u32, count: OctetSi
     if !one_recipient(h) {
         return refusal(PendingFault::NotOneRecipient);
     }
-    Answer::Done
+    Ok(())
 }

@@ -11,7 +11,7 @@ use Rattle.bits.specs.declared.BitPlace.{BitPlace}
 use Rattle.bits.proofs.Splices.{splice-splice, splice-nil}
 use Rattle.codec.specs.Answer.{got, refused, next, pick}
 use Rattle.codec.specs.Codec.{Codec, first, same, must, number, nothing, ◌then_by◌, viewed, present, unless, tested, flag, ◌closed_by◌}
-use Rattle.codec.specs.Refusals.{fault_no, Step, Reading, answer, answer_of, check_no}
+use Rattle.codec.specs.Refusals.{fault_no, Step, answer, answer_of, check_no}
 use Rattle.codec.proofs.Told.{fault-positive, first-refusal}
 use Rattle.codec.specs.declared.Fault.{Fault}
 use Rattle.codec.specs.Writes.{Writes}

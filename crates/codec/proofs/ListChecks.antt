@@ -12,7 +12,7 @@ use native.Mathlib.Omega.{arith}
 use Rattle.codec.specs.Answer.{pick}
 use Rattle.codec.specs.Codec.{Codec, first, flag, nothing, present, tested, viewed, ◌then_by◌}
 use Rattle.codec.specs.Lists.{recurs, listed, cells}
-use Rattle.codec.specs.Refusals.{check_no, fault_no}
+use Rattle.codec.specs.Refusals.{check_no}
 use Rattle.codec.specs.declared.Fault.{Fault}
 use Rattle.codec.proofs.Told.{fine-first, bad-first}
 use Rattle.std.specs.Prelude.{Result, Ok, Err}

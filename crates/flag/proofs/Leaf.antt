@@ -1,5 +1,5 @@
 -- What the octets of a slice tell of a flag at a place, what writing it leaves behind, and a recurrence bit by the room behind it. Assumes nothing.
-use Prim.Native.Nat.{ℕ, zero, suc, ◌+◌, ◌*◌, ◌<◌, ◌≤◌, ◌^◌}
+use Prim.Native.Nat.{ℕ, zero, suc, ◌+◌, ◌*◌, ◌<◌, ◌≤◌}
 use mathlib.Core.Path.{◌≡◌, refl, ap, sym, ◌∙◌}
 use lib.Dec.{eqb}
 use mathlib.Core.Bool.{Bool, true, false, not, beq}

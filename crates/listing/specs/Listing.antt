@@ -1,14 +1,15 @@
 -- What the listing's call promises of any table, row number and output.
-use Rattle.std.specs.Prelude.{ℕ, List, ◌++◌, length, drop, leb}
+use Rattle.std.specs.Prelude.{ℕ, List, ◌++◌, length, drop, leb, Result, Ok, Err}
 use Rattle.codec.specs.Answer.{pick}
 use Rattle.order.specs.Calls.{Rows}
 use Rattle.table.specs.Rows.{see}
 use Rattle.table.specs.WellFormed.{well_formed}
 use Rattle.table.specs.declared.Table.{Table}
 use Rattle.row_text.specs.Text.{listed}
-use Rattle.listing.specs.declared.Listed.{Listed}
+use Rattle.bits.specs.declared.OctetSize.{OctetSize}
+use Rattle.codec.specs.declared.Refusal.{Refusal}
 use Rattle.listing.specs.declared.ListingFault.{ListingFault}
-use Rattle.listing.specs.declared.ListingFault.TheVariants.{NoRoom, IllFormed}
+pub use Rattle.listing.specs.Numbers.{listing_no}
 
 -- the octets written; or document 01's number, the place and the block, which are 0
 pub data Listing : Type 0 where
@@ -28,14 +29,7 @@ unfoldable pub output_after : Rows → ℕ → Listing → List ℕ → List ℕ
 output_after s n (done k) out = listed s n ++ drop k out
 output_after s n (rejected f p b) out = out
 
--- document 01's number of a refusal
-abbrev pub listing_no : ListingFault → ℕ
--- the output is shorter than the row
-listing_no NoRoom = 11
--- the table is not well formed
-listing_no IllFormed = 30
-
 -- what the call's answer tells
-unfoldable pub told : Listed → Listing
-told (Listed.Done n) = done n.0
-told (Listed.Refused f p b) = rejected (listing_no f) p.0 b.0
+unfoldable pub told : Result OctetSize (Refusal ListingFault) → Listing
+told (Ok n) = done n.0
+told (Err e) = rejected (listing_no e.fault) e.place.0 e.block.0

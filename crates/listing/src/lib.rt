@@ -9,9 +9,9 @@ ghost use Rattle.row_text.specs.Text.{row_text, listed};
 ghost use Rattle.row_text.specs.Puts.{Puts};
 ghost use Rattle.listing.specs.Listing.{rejected, listing, output_after, listing_no, told};
 
-use bits::{BitPlace, OctetSize};
+use bits::OctetSize;
 use cells::{entry, load_word};
-use codec::BlockNumber;
+use codec::Refusal;
 use inspect::inspect;
 use row_text::rows::{count_line_length, put_count_line, put_row, row_length};
 use table_octets::{KEY, TABLE, in_key, in_table};
@@ -26,18 +26,16 @@ pub enum ListingFault {
     IllFormed,
 }
 
-// The answer of the listing: done, with the octets written; or refused with the kind of fault, the place
-// and the block, which are always 0.
-#[derive(Clone, Copy)]
-pub enum Listed {
-    Done(OctetSize),
-    Refused(ListingFault, BitPlace, BlockNumber),
-}
+// The number of a refusal.
+impl From<ListingFault> for u32 {
+    ghost from_gives = { λ f n. n ≡ listing_no f };
 
-fn refusal(fault: ListingFault) -> Listed
-    ensures { told result ≡ rejected (listing_no fault) 0 0 }
-{
-    Listed::Refused(fault, BitPlace(0), BlockNumber(0))
+    fn from(f: ListingFault) -> u32 {
+        match f {
+            ListingFault::NoRoom => 11,
+            ListingFault::IllFormed => 30,
+        }
+    }
 }
 
 // The octets of the table's row with a number, from 1 on.
@@ -46,8 +44,7 @@ fn row_with(t: &[u8], number: u32) -> &[u8]
     ensures { (listed (see (table_in t.now)) number ≡ row_text (row_of (row_in result.now))) × (length result.now ≡ size_of_row) }
 {
     let rows = &t[in_table::ROWS..in_table::COUNT];
-    let i = (number - 1) as usize;
-    entry(rows, i, in_table::ENTRY)
+    entry(rows, number as usize - 1, in_table::ENTRY)
 }
 
 // The length of a row of the listing: row 0 counts the rows, and there is nothing past the last.
@@ -62,8 +59,7 @@ fn listed_length(t: &[u8], number: u32) -> OctetSize
     if count < number {
         return OctetSize(0);
     }
-    let row = row_with(t, number);
-    row_length(row)
+    row_length(row_with(t, number))
 }
 
 fn put_listed(out: &mut [u8], t: &[u8], number: u32) -> OctetSize
@@ -77,8 +73,7 @@ fn put_listed(out: &mut [u8], t: &[u8], number: u32) -> OctetSize
     if count < number {
         return OctetSize(0);
     }
-    let row = row_with(t, number);
-    put_row(out, OctetSize(0), row)
+    put_row(out, OctetSize(0), row_with(t, number))
 }
 
 // Whether a row's text goes into so many octets. With room for the longest it need not be measured.
@@ -86,28 +81,27 @@ fn has_room(t: &[u8], number: u32, room: usize) -> bool
     requires { (well_formed (table_in t.now) ≡ true) × (length t.now ≡ size_of_table) }
     ensures { result ≡ leb (length (listed (see (table_in t.now)) number)) room }
 {
-    if LONGEST <= room {
-        return true;
-    }
-    let size = listed_length(t, number);
-    size.0 <= room
+    LONGEST <= room || listed_length(t, number).0 <= room
 }
 
 // Writes a row of the listing: the table has to be well formed (30), then there has to be room (11);
 // only then is the first octet written. Done, the output begins with the row's text and is otherwise
 // as it was; refused, it is as it was. (The look at the table seeks no key in earnest: the URN 0
 // comes first of all, so that only the first row's key is compared with it.)
-pub fn list_row(t: &[u8; TABLE], number: u32, out: &mut [u8]) -> Listed
+pub fn list_row(
+    t: &[u8; TABLE],
+    number: u32,
+    out: &mut [u8],
+) -> Result<OctetSize, Refusal<ListingFault>>
     ensures { (told result ≡ listing (table_in t.now) number (length out.old)) × (out.new ≡ output_after (see (table_in t.now)) number (listing (table_in t.now) number (length out.old)) out.old) }
 {
     let mut key = [0u8; KEY];
     key[in_key::ADDRESS] = 1;
     if inspect(t, &key).is_none() {
-        return refusal(ListingFault::IllFormed);
+        return Err(Refusal::from(ListingFault::IllFormed));
     }
     if !has_room(t, number, out.len()) {
-        return refusal(ListingFault::NoRoom);
+        return Err(Refusal::from(ListingFault::NoRoom));
     }
-    let end = put_listed(out, t, number);
-    Listed::Done(end)
+    Ok(put_listed(out, t, number))
 }

@@ -4,7 +4,6 @@
 
 ghost use Rattle.std.specs.Prelude.{◌≤◌};
 
-use listing::Listed;
 use std::io;
 use std::io::{Read, Write};
 use table_octets::TABLE;
@@ -77,13 +76,10 @@ fn take_all(rt: &impl Input, t: &mut [u8; TABLE]) -> io::Result<()> {
 // A row of the listing. A row has at most 4,096 octets.
 fn print_row(rt: &impl Print, t: &[u8; TABLE], number: u32) -> io::Result<()> {
     let mut out = [0u8; 4096];
-    let r = listing::list_row(t, number, &mut out);
-    let Listed::Done(size) = r else {
-        return Ok(());
-    };
-    let n = size.0;
-    if n <= 4096 {
-        io::writer(rt).write_all(&out[..n])?;
+    if let Ok(size) = listing::list_row(t, number, &mut out) {
+        if let Some(row) = out.get(..size.0) {
+            io::writer(rt).write_all(row)?;
+        }
     }
     Ok(())
 }

@@ -19,9 +19,12 @@ use Rattle.table_octets.specs.Table.{table_in}
 use Rattle.transitions.specs.Transition.{Transition}
 use Rattle.pending.specs.Calls.{rows_after}
 use Rattle.reader.specs.Reading.{Reading, accepted, rejected, reading, user_data}
-use Rattle.reader.specs.Told.{Told, told, to_tell, Holds, outcome_done}
+use Rattle.reader.specs.Told.{Told, told, to_tell, Holds}
 use Rattle.record_octets.specs.Record.{header_in}
-use Rattle.reader.specs.declared.HeaderRead.{HeaderRead}
+use Rattle.bits.specs.declared.OctetSize.{OctetSize}
+use Rattle.codec.specs.declared.Fault.{Fault}
+use Rattle.codec.specs.declared.Refusal.{Refusal}
+use Rattle.std.specs.Prelude.{Result, Ok, Err, is_err}
 use Rattle.playing.specs.Plays.{Plays, turn, after, rows_of, played_by, played}
 
 -- ---- whether a block has G8
@@ -104,10 +107,20 @@ unfolding played_by to_tell Holds
 by-record s after t (accepted h n) e k = ap (λ (y : Header). rows_of y (length (user_data s)) t y.blocks.count) k
 by-record s after t (rejected f p b) e k = let z : ◌≡◌ {A = ℕ} 0 1 = cc in absurd (omega arith)
 
-module _ (s : List ℕ) (t : Table) (r : HeaderRead) (e : told r ≡ to_tell (reading s)) where
-  pub played-refused : outcome_done r.outcome ≡ false → see t ≡ played t s
-  played-refused d = by-refusal s t (reading s) (sym (ap (λ (x : Told). x.done) e) ∙ d)
+not_done : (r : Result OctetSize (Refusal Fault)) → is_err r ≡ true → (told r).done ≡ false
+unfolding told
+not_done (Ok n) d = sym d
+not_done (Err f) d = refl
 
-  pub played-record : outcome_done r.outcome ≡ true → (after : List ℕ) → Holds (reading s) after → (count : ℕ) → count ≡ length (user_data s) → (t' : Table) → see t' ≡ rows_of (header_in after) count t (header_in after).blocks.count → see t' ≡ played t s
+is_done : (r : Result OctetSize (Refusal Fault)) → is_err r ≡ false → (told r).done ≡ true
+unfolding told
+is_done (Ok n) d = refl
+is_done (Err f) d = sym d
+
+module _ (s : List ℕ) (t : Table) (r : Result OctetSize (Refusal Fault)) (e : told r ≡ to_tell (reading s)) where
+  pub played-refused : is_err r ≡ true → see t ≡ played t s
+  played-refused d = by-refusal s t (reading s) (sym (ap (λ (x : Told). x.done) e) ∙ not_done r d)
+
+  pub played-record : is_err r ≡ false → (after : List ℕ) → Holds (reading s) after → (count : ℕ) → count ≡ length (user_data s) → (t' : Table) → see t' ≡ rows_of (header_in after) count t (header_in after).blocks.count → see t' ≡ played t s
   played-record d after held count k t' g =
-      g ∙ ap (λ (n : ℕ). rows_of (header_in after) n t (header_in after).blocks.count) k ∙ by-record s after t (reading s) (sym (ap (λ (x : Told). x.done) e) ∙ d) held
+      g ∙ ap (λ (n : ℕ). rows_of (header_in after) n t (header_in after).blocks.count) k ∙ by-record s after t (reading s) (sym (ap (λ (x : Told). x.done) e) ∙ is_done r d) held

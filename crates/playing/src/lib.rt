@@ -14,7 +14,6 @@ use cells::entry;
 use leaves::block::has_response;
 use leaves::setting::block_count;
 use pending::{post, receipt};
-use reader::Outcome;
 use record_octets::{RECORD, in_blocks, in_header};
 use table_octets::TABLE;
 
@@ -57,12 +56,9 @@ pub fn play(t: &mut [u8; TABLE], datagram: &[u8])
     ensures { (see (table_in t.new) ≡ played (table_in t.old) datagram.now) × (well_formed (table_in t.new) ≡ well_formed (table_in t.old)) }
 {
     let mut octets = [0u8; RECORD];
-    let r = reader::read(datagram, &mut octets);
-    let outcome = r.outcome;
-    let Outcome::Done = outcome else {
+    if reader::read(datagram, &mut octets).is_err() {
         return;
-    };
+    }
     let data = reader::user_data(datagram);
-    let count = OctetSize(data.len());
-    play_blocks(t, &octets, count);
+    play_blocks(t, &octets, OctetSize(data.len()));
 }

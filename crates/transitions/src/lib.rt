@@ -23,6 +23,7 @@ ghost use Rattle.transitions.specs.Transition.{Transition};
 
 use arguments::{Answer, PendingFault, refusal};
 use cells::load_word;
+use codec::Refusal;
 use header::Requests;
 use inspect::inspect;
 use places::{put_row, remove_row};
@@ -34,16 +35,14 @@ mod places;
 mod settled;
 
 // Where the key stands, unless the call is refused before a row is asked: by the table's form first, then by what the arguments alone say.
-fn sought(t: &[u8], key: &[u8], said: Answer) -> Result<Position, Answer>
+fn sought(t: &[u8], key: &[u8], said: Answer) -> Result<Position, Refusal<PendingFault>>
     requires { (length t.now ≡ size_of_table) × (length key.now ≡ size_of_key) × (answer_place said ≡ 0) }
-    ensures { MatchResult result (λ p. (well_formed (table_in t.now) ≡ true) × ((answer_says said).number ≡ 0) × Placed (table_in t.now) (key_in key.now) p) (λ x. (answer_says x ≡ pick (well_formed (table_in t.now)) (answer_says said) (plain 30)) × (0 < (answer_says x).number) × (answer_place x ≡ 0)) }
+    ensures { MatchResult result (λ p. (well_formed (table_in t.now) ≡ true) × ((answer_says said).number ≡ 0) × Placed (table_in t.now) (key_in key.now) p) (λ e. (answer_says (Err e) ≡ pick (well_formed (table_in t.now)) (answer_says said) (plain 30)) × (0 < (answer_says (Err e)).number) × (answer_place (Err e) ≡ 0)) }
 {
     let Some(place) = inspect(t, key) else {
-        return Err(refusal(PendingFault::IllFormed));
+        return Err(Refusal::from(PendingFault::IllFormed));
     };
-    let Answer::Done = said else {
-        return Err(said);
-    };
+    said?;
     Ok(place)
 }
 
@@ -60,10 +59,7 @@ pub fn post_row(t: &mut [u8], key: &[u8], asked: Requests, to: &[u8], said: Answ
     requires { (length t.old ≡ size_of_table) × (key.now ≡ key_octets (key_image (key_of (key_in key.now)))) × TypedKey (key_image (key_of (key_in key.now))) × (length to.now ≡ size_of_addresses) × (answer_place said ≡ 0) × ((answer_says said).number ≡ 0 → (key_fault (key_in key.now) ≡ 0) × (any_of (ask_of asked) ≡ true) × ((addresses 15).check (addresses_in to.now) ≡ 0)) }
     ensures { Transition (named (answer_says said) (operation.post (key_of (key_in key.now)) (make (ask_of asked) (map address_of (take (addresses_in to.now).count (addresses_in to.now).list))))) t.old (answer_says result) t.new × (answer_place result ≡ 0) }
 {
-    let place = match sought(t, key, said) {
-        Ok(place) => place,
-        Err(refused) => return refused,
-    };
+    let place = sought(t, key, said)?;
     let Err(at) = place else {
         return refusal(PendingFault::KeyHeld);
     };
@@ -72,7 +68,7 @@ pub fn post_row(t: &mut [u8], key: &[u8], asked: Requests, to: &[u8], said: Answ
         return refusal(PendingFault::TableFull);
     }
     put_row(t, count, at, key, asked, to);
-    Answer::Done
+    Ok(())
 }
 
 // The code written in the row with the key, at the answerer, to each open request that it answers.
@@ -80,10 +76,7 @@ pub fn settle_row(t: &mut [u8], key: &[u8], from: &[u8], code: u32, said: Answer
     requires { (length t.old ≡ size_of_table) × (length key.now ≡ size_of_key) × (length from.now ≡ size_of_address) × (answer_place said ≡ 0) × ((answer_says said).number ≡ 0 → 0 < code) }
     ensures { Transition (named (answer_says said) (operation.receipt (key_of (key_in key.now)) (address_of (address_in from.now), code))) t.old (answer_says result) t.new × (answer_place result ≡ 0) }
 {
-    let place = match sought(t, key, said) {
-        Ok(place) => place,
-        Err(refused) => return refused,
-    };
+    let place = sought(t, key, said)?;
     let Ok(at) = place else {
         return refusal(PendingFault::NoRow);
     };
@@ -97,14 +90,11 @@ pub fn release_row(t: &mut [u8], key: &[u8], said: Answer) -> Answer
     requires { (length t.old ≡ size_of_table) × (length key.now ≡ size_of_key) × (answer_place said ≡ 0) }
     ensures { Transition (named (answer_says said) (operation.release (key_of (key_in key.now)))) t.old (answer_says result) t.new × (answer_place result ≡ 0) }
 {
-    let place = match sought(t, key, said) {
-        Ok(place) => place,
-        Err(refused) => return refused,
-    };
+    let place = sought(t, key, said)?;
     let Ok(row) = place else {
         return refusal(PendingFault::NoRow);
     };
     let count = row_count(t);
     remove_row(t, count, row);
-    Answer::Done
+    Ok(())
 }

@@ -103,5 +103,5 @@ pub fn settled_row(r: &mut [u8], from: &[u8], code: u32) -> Answer
     if !settle(asked, code, &mut r[start..end]) {
         return refusal(PendingFault::NothingOpen);
     }
-    Answer::Done
+    Ok(())
 }

@@ -3,10 +3,10 @@ use Rattle.writer.specs.Writing.{told}
 use Rattle.answers.specs.Numbers.{write_numbers}
 use Rattle.answers.proofs.of_writing.Goals as goal
 
-pub returns-in-Done : goal.returns-in-Done
+pub returns-in-Ok : goal.returns-in-Ok
 unfolding told write_numbers
-returns-in-Done c = rw c.in-Done.is c.size.ensures
+returns-in-Ok c = rw c.in-Ok.is c.size.ensures
 
-pub returns-in-Refused : goal.returns-in-Refused
+pub returns-in-Err : goal.returns-in-Err
 unfolding told write_numbers
-returns-in-Refused c = rw (c.in-Refused.is, ← c.fault_number.ensures) c.refused.ensures
+returns-in-Err c = rw (c.in-Err.is, ← c.from.ensures) c.refused.ensures
