@@ -11,8 +11,7 @@ use Rattle.codec.specs.Codec.{first, viewed}
 use Rattle.codec.specs.Refusals.{check_no, fault_no}
 use Rattle.codec.specs.declared.Fault.{Fault}
 use Rattle.codec.specs.declared.Refusal.{Refusal}
-use Rattle.std.specs.Prelude.{Result, Ok, Err, IsErrAnd, ⊤}
-use Rattle.std.proofs.lemmas.Result.{err_from_is_err_and}
+use Rattle.std.specs.Prelude.{Result, Ok, Err}
 use Rattle.bits.specs.declared.OctetSize.{OctetSize}
 use Rattle.codec.specs.Verdict.{Verdict, in_block, plain, fine, first_of}
 use Rattle.codec.proofs.Verdicts.{first-none, first_some, first_fine}
@@ -47,6 +46,31 @@ pub block-named : (h : Header) (n count : ℕ) (b : Block) → (fault_of h count
 unfolding blocks viewed
 block-named h n count b v e is = is e (count_most no_block (block h.front.version) 16 15 _ _ (blocks-legal h (valid-fields h count v)))
 
+-- ---- an answer
+
+pub plain-says : (f : PendingFault) (y : Refusal PendingFault) → (y.fault ≡ f) × (y.place.0 ≡ 0) × (y.block.0 ≡ 0) → (answer_says (Err y) ≡ plain (pending_no f)) × (answer_place (Err y) ≡ 0)
+unfolding answer_says answer_place
+plain-says f y h = (λ i. in_block (h.2 i) (pending_no (h.0 i)), h.1)
+
+pub fault-no : (f : PendingFault) → 0 < pending_no f
+unfolding pending_no
+fault-no (Record f) = fault-positive f
+fault-no NothingAsked = lit< tt
+fault-no NoRecipient = lit< tt
+fault-no KeyHeld = lit< tt
+fault-no TableFull = lit< tt
+fault-no NoResponse = lit< tt
+fault-no NotOneRecipient = lit< tt
+fault-no NoRow = lit< tt
+fault-no NotARecipient = lit< tt
+fault-no NothingOpen = lit< tt
+fault-no NoBlock = lit< tt
+fault-no IllFormed = lit< tt
+
+pub answer-bad : (e : Refusal PendingFault) → 0 < (answer_says (Err e)).number
+unfolding answer_says
+answer-bad e = fault-no e.fault
+
 -- ---- the writer's answer
 
 -- a record that is not refused tells nothing at all
@@ -70,23 +94,16 @@ written-says h count (Err r) e = go (fault_of h count).number (fault_of h count)
     go zero i d = not_done (sym d)
     go (suc k) i d = ap refused_says d
 
--- a valid record
-pub written-valid : (h : Header) (count : ℕ) (n : OctetSize) → told (Ok n) ≡ checking h count → (fault_of h count).number ≡ 0
-unfolding written_says
-written-valid h count n e = ap (λ (v : Verdict). v.number) (sym (written-says h count (Ok n) e))
+-- what the writer's answer says of the call
+module _ (h : Header) (count : ℕ) (w : Result OctetSize (Refusal Fault)) (t : told w ≡ checking h count) where
+  -- a valid record
+  pub written-valid : answer_says (Ok tt) ≡ written_says w → (fault_of h count).number ≡ 0
+  unfolding answer_says
+  written-valid e = ap (λ (v : Verdict). v.number) (sym (e ∙ written-says h count w t))
 
--- a record that is refused, and the call with it
-module _ (h : Header) (count : ℕ) (e : Refusal Fault) (t : told (Err e) ≡ checking h count) where
-  pub written-bad : 0 < (fault_of h count).number
-  unfolding written_says
-  written-bad = omega (arith, fault-positive e.fault, ap (λ (v : Verdict). v.number) (written-says h count (Err e) t))
-
-  pub record-says : (r : Answer) → IsErrAnd r (λ y. (pending_no y.fault ≡ fault_no e.fault) × (y.place.0 ≡ 0) × (y.block ≡ e.block)) → (answer_says r ≡ fault_of h count) × (answer_place r ≡ 0)
-  unfolding answer_says answer_place written_says
-  record-says r k =
-      let p = err_from_is_err_and r k in
-      let s : in_block e.block.0 (fault_no e.fault) ≡ fault_of h count = written-says h count (Err e) t in
-      rw p.1 ((λ i. in_block (p.2.2 i).0 (p.2.0 i)) ∙ s, p.2.1)
+  -- a record that is refused
+  pub written-bad : (r : Refusal PendingFault) → answer_says (Err r) ≡ written_says w → 0 < (fault_of h count).number
+  written-bad r e = omega (arith, answer-bad r, ap (λ (v : Verdict). v.number) (e ∙ written-says h count w t))
 
 -- ---- a record's refusal, then 29 for the block, y for its group and z for the addressees
 
@@ -115,32 +132,3 @@ module _ (f : Verdict) (a b c : Bool) (y z : ℕ) where
         pub at_none : c ≡ true → fine ≡ chain
         unfolding first first_of
         at_none d = rw (e, t, u, d)
-
--- ---- an answer
-
-pub plain-says : (f : PendingFault) (y : Refusal PendingFault) → (y.fault ≡ f) × (y.place.0 ≡ 0) × (y.block.0 ≡ 0) → (answer_says (Err y) ≡ plain (pending_no f)) × (answer_place (Err y) ≡ 0)
-unfolding answer_says answer_place
-plain-says f y h = (λ i. in_block (h.2 i) (pending_no (h.0 i)), h.1)
-
-pub key-says : (f : Fault) (r : Answer) → IsErrAnd r (λ y. (pending_no y.fault ≡ fault_no f) × (y.place.0 ≡ 0) × (y.block.0 ≡ 0)) → (answer_says r ≡ plain (fault_no f)) × (answer_place r ≡ 0)
-unfolding answer_says answer_place
-key-says f r k = let p = err_from_is_err_and r k in rw p.1 (λ i. in_block (p.2.2 i) (p.2.0 i), p.2.1)
-
-pub fault-no : (f : PendingFault) → 0 < pending_no f
-unfolding pending_no
-fault-no (Record f) = fault-positive f
-fault-no NothingAsked = lit< tt
-fault-no NoRecipient = lit< tt
-fault-no KeyHeld = lit< tt
-fault-no TableFull = lit< tt
-fault-no NoResponse = lit< tt
-fault-no NotOneRecipient = lit< tt
-fault-no NoRow = lit< tt
-fault-no NotARecipient = lit< tt
-fault-no NothingOpen = lit< tt
-fault-no NoBlock = lit< tt
-fault-no IllFormed = lit< tt
-
-pub answer-bad : (e : Refusal PendingFault) → 0 < (answer_says (Err e)).number
-unfolding answer_says
-answer-bad e = fault-no e.fault

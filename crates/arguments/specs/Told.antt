@@ -6,7 +6,7 @@ use Rattle.codec.specs.Verdict.{Verdict, in_block, fine}
 use Rattle.codec.specs.declared.Fault.{Fault}
 use Rattle.codec.specs.declared.Refusal.{Refusal}
 use Rattle.arguments.specs.declared.PendingFault.{PendingFault}
-pub use Rattle.arguments.specs.Numbers.{pending_no}
+unfoldable pub use Rattle.arguments.specs.Numbers.{pending_no}
 
 -- the answer of a call: the name of `src/` for this type
 abbrev pub Answer : Type 0

@@ -38,6 +38,7 @@ pub enum PendingFault {
 impl From<PendingFault> for u32 {
     ghost from_gives = { λ f n. n ≡ pending_no f };
 
+    #[tactic(auto, unfolding(crate::specs::Numbers::pending_no))]
     fn from(f: PendingFault) -> u32 {
         match f {
             PendingFault::Record(fault) => u32::from(fault),
@@ -56,28 +57,6 @@ impl From<PendingFault> for u32 {
     }
 }
 
-// A record's own refusal, by the writer's check; it tells its block.
-impl From<Refusal<Fault>> for Refusal<PendingFault> {
-    ghost from_gives = { λ e r. (pending_no r.fault ≡ fault_no e.fault) × (r.place.0 ≡ 0) × (r.block ≡ e.block) };
-
-    fn from(e: Refusal<Fault>) -> Refusal<PendingFault> {
-        Refusal {
-            fault: PendingFault::Record(e.fault),
-            place: BitPlace(0),
-            block: e.block,
-        }
-    }
-}
-
-// A key's own fault.
-impl From<Fault> for Refusal<PendingFault> {
-    ghost from_gives = { λ f r. (pending_no r.fault ≡ fault_no f) × (r.place.0 ≡ 0) × (r.block.0 ≡ 0) };
-
-    fn from(fault: Fault) -> Refusal<PendingFault> {
-        Refusal::from(PendingFault::Record(fault))
-    }
-}
-
 // The answer of a call: done, or refused. The place is always 0, and the block is 0 where the refusal is about none.
 pub type Answer = Result<(), Refusal<PendingFault>>;
 
@@ -88,12 +67,28 @@ pub fn refusal(fault: PendingFault) -> Answer
     Err(Refusal::from(fault))
 }
 
+// The writer's answer on the record: its own refusal tells its block.
+fn by_record(written: Result<OctetSize, Refusal<Fault>>) -> Answer
+    ensures { (answer_says result ≡ written_says written) × (answer_place result ≡ 0) }
+{
+    match written {
+        Ok(_) => Ok(()),
+        Err(e) => Err(Refusal {
+            fault: PendingFault::Record(e.fault),
+            place: BitPlace(0),
+            block: e.block,
+        }),
+    }
+}
+
 // What a key's own check says.
 pub fn by_check(checked: Result<(), Fault>) -> Answer
     ensures { (answer_says result ≡ plain (check_no checked)) × (answer_place result ≡ 0) }
 {
-    checked?;
-    Ok(())
+    match checked {
+        Ok(()) => Ok(()),
+        Err(fault) => refusal(PendingFault::Record(fault)),
+    }
 }
 
 // Whether there is a block with this number, counted from 1.
@@ -125,6 +120,7 @@ pub fn block_at(h: &[u8], number: u32) -> &[u8]
 }
 
 // Whether any request of G7 is set.
+#[tactic(auto, unfolding(order::specs::Requests::ask_of))]
 pub fn asks_any(b: &[u8]) -> bool
     requires { length b.now ≡ size_of_block }
     ensures { result ≡ asks (block_in b.now) }
@@ -172,7 +168,7 @@ pub fn check_posting(h: &[u8; RECORD], block: &[u8], number: u32, count: OctetSi
     requires { (length block.now ≡ size_of_block) × (has_block (header_in h.now) number ≡ true → (header_in h.now).blocks.count ≤ 16 → block_in block.now ≡ block_at (header_in h.now) number) }
     ensures { (answer_says result ≡ posting_fault (header_in h.now) number count.0) × (answer_place result ≡ 0) }
 {
-    writer::check(h, count)?;
+    by_record(writer::check(h, count))?;
     if !has_block(h, number) {
         return refusal(PendingFault::NoBlock);
     }
@@ -190,7 +186,7 @@ pub fn check_receipt(h: &[u8; RECORD], block: &[u8], number: u32, count: OctetSi
     requires { (length block.now ≡ size_of_block) × (has_block (header_in h.now) number ≡ true → (header_in h.now).blocks.count ≤ 16 → block_in block.now ≡ block_at (header_in h.now) number) }
     ensures { (answer_says result ≡ receipt_fault (header_in h.now) number count.0) × (answer_place result ≡ 0) }
 {
-    writer::check(h, count)?;
+    by_record(writer::check(h, count))?;
     if !has_block(h, number) {
         return refusal(PendingFault::NoBlock);
     }

@@ -1,13 +1,12 @@
 -- How readings into octets make the reading of a group. The proofs of functions that go field by field cite the rule set. Assumes nothing.
 use Prim.Native.Nat.{ℕ}
-use mathlib.Core.Path.{◌≡◌, ap, sym, ◌∙◌}
+use mathlib.Core.Path.{◌≡◌, ap, ◌∙◌}
 use mathlib.Core.Bool.{Bool, true}
 use mathlib.Core.List.{List}
-use native.Mathlib.Omega.{arith}
 use Rattle.bits.specs.declared.BitPlace.{BitPlace}
 use Rattle.codec.specs.Answer.{next}
 use Rattle.codec.specs.Codec.{Codec, ◌then_by◌, viewed, present}
-use Rattle.codec.specs.Refusals.{Step, Reading, answer, answer_of, step_of}
+use Rattle.codec.specs.Refusals.{Step, Reading, answer, answer_of}
 use Rattle.codec.specs.declared.FieldFault.{FieldFault}
 use Rattle.codec.proofs.Compose.{Gets, Stops, handed, stopped, group-got, reading-got}
 use Rattle.std.specs.Prelude.{Ok, Err, OnOk, IsErrAnd}

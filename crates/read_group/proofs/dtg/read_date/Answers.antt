@@ -4,7 +4,7 @@ use native.Mathlib.Omega.{arith}
 use Rattle.codec.proofs.Compose.{stopping}
 use Rattle.into.proofs.Ready.{ready-none, ready-next, ready-all}
 use Rattle.into.proofs.Telling.{telling, into-stop, into-tell}
-use Rattle.header.specs.Table.{date, day_in}
+use Rattle.header.specs.Table.{date}
 use Rattle.record_octets.specs.Record.{date_octets}
 use Rattle.read_group.proofs.dtg.read_date.Goals as goal
 
