@@ -1,17 +1,19 @@
 -- Writing a record: what document 01 makes of every record, count of user data and output, with its refusals in their order.
-use Rattle.std.specs.Prelude.{ℕ, ◌+◌, ◌≡◌, Bool, true, false, List, ◌++◌, drop, replicate, leb}
+use Rattle.std.specs.Prelude.{ℕ, ◌+◌, ◌≡◌, Bool, true, false, List, ◌++◌, drop, replicate, leb, Result, Ok, Err}
 use Rattle.bits.specs.Bits.{octets}
 use Rattle.bits.specs.Units.{whole_octets, fill_bits, datagram_limit}
+use Rattle.bits.specs.declared.OctetSize.{OctetSize}
 use Rattle.codec.specs.Answer.{pick}
 use Rattle.codec.specs.Codec.{first}
 use Rattle.codec.specs.Refusals.{fault_no}
 use Rattle.codec.specs.Verdict.{Verdict, plain, whether, first_of}
+use Rattle.codec.specs.declared.Fault.{Fault}
+use Rattle.codec.specs.declared.Refusal.{Refusal}
 use Rattle.header.specs.Table.{front, blocks, wire}
 use Rattle.header.specs.Rules.{setting_of}
 use Rattle.header.specs.Sizes.{judgement}
 use Rattle.header.specs.declared.Header.{Header}
 use Rattle.header.specs.declared.Wire.{Wire}
-use Rattle.writer.specs.declared.Written.{Written}
 
 -- what the bits hold of a record, n being the header size where there is one
 abbrev pub wire_of : Header → ℕ → Wire
@@ -73,6 +75,6 @@ output_after h (done n) out = header_of h ++ drop n out
 output_after h (rejected f p b) out = out
 
 -- what the answer of `check` and `write` tells
-unfoldable pub told : Written → Writing
-told (Written.Done n) = done n.0
-told (Written.Refused f p b) = rejected (fault_no f) p.0 b.0
+unfoldable pub told : Result OctetSize (Refusal Fault) → Writing
+told (Ok n) = done n.0
+told (Err e) = rejected (fault_no e.fault) e.place.0 e.block.0
