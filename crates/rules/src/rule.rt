@@ -96,7 +96,8 @@ fn rule_i(x: Setting, b: &[u8]) -> bool
     requires { length b.now ≡ size_of_block }
     ensures { result ≡ rule_i x (block_in b.now) }
 {
-    !has_requests(b) || !(asks_machine(b) || asks_acknowledge(b) || asks_reply(b)) || has_origin(b)
+    let asks = has_requests(b) && (asks_machine(b) || asks_acknowledge(b) || asks_reply(b));
+    !asks || has_origin(b)
 }
 
 // How many rules a block keeps before the first that it breaks.

@@ -54,8 +54,8 @@ fn look(
 }
 
 // The entries of a list of 1 to 16 blocks of a record of that version, in a setting, with so many octets of user data,
-// from a place on that leaves room for the longest, 16 times 3,316 bits with their recurrence bits. The error is
-// the first fault of a field. The header size is written as it has to be, so that it holds.
+// from a place on that leaves room for the longest, 16 times 3,316 bits with their recurrence bits: the first fault of a
+// field, or what legal blocks show. The header size is written as it has to be, so that it holds.
 fn survey_entries(
     version: u32,
     x: Setting,
