@@ -38,8 +38,7 @@ fn further(p: Position, i: usize, key: &[u8], row: &[u8]) -> Position
     if index_of(p) < i {
         return p;
     }
-    let c = compare_keys(key, &row[in_row::KEY..in_row::ASKED]);
-    match c {
+    match compare_keys(key, &row[in_row::KEY..in_row::ASKED]) {
         Ordering::Less => p,
         Ordering::Equal => Ok(i),
         Ordering::Greater => Err(i + 1),

@@ -32,8 +32,7 @@ pub fn find_recipient(s: &[u8], count: u32, a: &[u8]) -> Position
     let n = count as usize;
     for i in 0..n {
         let x = entry(s, i, in_recipient::END);
-        let c = compare_addresses(a, &x[in_recipient::ADDRESS..in_recipient::MACHINE]);
-        match c {
+        match compare_addresses(a, &x[in_recipient::ADDRESS..in_recipient::MACHINE]) {
             Ordering::Less => return Err(i),
             Ordering::Equal => return Ok(i),
             Ordering::Greater => {}

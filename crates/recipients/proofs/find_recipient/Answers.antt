@@ -12,15 +12,15 @@ loop-i-init c = seeking-none _ _ _ _ _
 
 pub returns-in-Less : goal.returns-in-Less
 unfolding comparison_of
-returns-in-Less c = (omega arith, λ e. no_way e, stops-free c.args.s.now c.args.count c.requires.1 (address_of (address_in c.args.a.now)) c.loop-i.i c.loop-i.invariant (omega arith) c.entry-x.result.now c.entry-x.ensures.0 _ c.compare_addresses-c.ensures (ap comparison_of c.in-Less.is))
+returns-in-Less c = (omega arith, λ e. no_way e, stops-free c.args.s.now c.args.count c.requires.1 (address_of (address_in c.args.a.now)) c.loop-i.i c.loop-i.invariant (omega arith) c.entry-x.result.now c.entry-x.ensures.0 _ c.compare_addresses.ensures (ap comparison_of c.in-Less.is))
 
 pub returns-in-Equal : goal.returns-in-Equal
 unfolding comparison_of
-returns-in-Equal c = (omega arith, λ e. omega arith, stops-held c.args.s.now c.args.count c.requires.1 (address_of (address_in c.args.a.now)) c.loop-i.i c.loop-i.invariant (omega arith) c.entry-x.result.now c.entry-x.ensures.0 _ c.compare_addresses-c.ensures (ap comparison_of c.in-Equal.is))
+returns-in-Equal c = (omega arith, λ e. omega arith, stops-held c.args.s.now c.args.count c.requires.1 (address_of (address_in c.args.a.now)) c.loop-i.i c.loop-i.invariant (omega arith) c.entry-x.result.now c.entry-x.ensures.0 _ c.compare_addresses.ensures (ap comparison_of c.in-Equal.is))
 
 pub loop-i-preserved : goal.loop-i-preserved
 unfolding comparison_of
-loop-i-preserved c = goes_on c.args.s.now c.args.count c.requires.1 (address_of (address_in c.args.a.now)) c.loop-i.i c.loop-i.invariant (omega arith) c.entry-x.result.now c.entry-x.ensures.0 _ c.compare_addresses-c.ensures (ap comparison_of c.in-Greater.is)
+loop-i-preserved c = goes_on c.args.s.now c.args.count c.requires.1 (address_of (address_in c.args.a.now)) c.loop-i.i c.loop-i.invariant (omega arith) c.entry-x.result.now c.entry-x.ensures.0 _ c.compare_addresses.ensures (ap comparison_of c.in-Greater.is)
 
 pub returns : goal.returns
 returns c = let w = c.loop-i.invariant.within in (omega (arith, w), λ e. no_way e, ended c.args.s.now c.args.count c.requires.1 (address_of (address_in c.args.a.now)) c.loop-i.i c.loop-i.invariant (omega arith))
