@@ -7,20 +7,19 @@ ghost use Rattle.table_octets.specs.Table.{size_of_key, key_in};
 
 use checker::address::check_address;
 use checker::dtg::check_stamp;
-use codec::{Check, earlier};
+use codec::Fault;
 use leaves::moment::load_stamp;
 use order::{compare_addresses, compare_stamps};
 use std::cmp::Ordering;
 use table_octets::in_key;
 
 // The first refusal of a key.
-pub fn check_key(k: &[u8]) -> Check
+pub fn check_key(k: &[u8]) -> Result<(), Fault>
     requires { length k.now ≡ size_of_key }
     ensures { check_no result ≡ key_fault (key_in k.now) }
 {
-    let address = check_address(&k[in_key::ADDRESS..in_key::STAMP]);
-    let stamp = check_stamp(&k[in_key::STAMP..in_key::END]);
-    earlier(address, stamp)
+    check_address(&k[in_key::ADDRESS..in_key::STAMP])?;
+    check_stamp(&k[in_key::STAMP..in_key::END])
 }
 
 // Stamps are 32 octets, and are loaded.

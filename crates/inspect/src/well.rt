@@ -12,7 +12,7 @@ ghost use Rattle.table_octets.specs.Table.{size_of_recipient, recipient_in, size
 use crate::keys::{check_key, compare_keys};
 use cells::{entry, load_word};
 use checker::address::check_address;
-use codec::Check;
+use codec::Fault;
 use header::Requests;
 use leaves::requests::load_requests;
 use order::compare_addresses;
@@ -41,13 +41,11 @@ pub fn load_codes(x: &[u8]) -> RecipientCodes
     }
 }
 
-fn is_fine(c: Check) -> bool
-    ensures { result ≡ eqb (check_no c) 0 }
+// Nothing is refused.
+fn is_fine(checked: Result<(), Fault>) -> bool
+    ensures { result ≡ eqb (check_no checked) 0 }
 {
-    match c {
-        Check::Fine => true,
-        Check::Bad(_) => false,
-    }
+    checked.is_ok()
 }
 
 // Each code is at an asked request that it answers.

@@ -1,13 +1,13 @@
 -- Fill bits, one after the other. Assumes nothing.
-use Prim.Native.Nat.{ℕ, zero, suc, ◌+◌, ◌-◌, ◌<◌, ◌≤◌}
-use mathlib.Core.Path.{◌≡◌, refl, ap, sym, ◌∙◌}
+use Prim.Native.Nat.{ℕ, suc, ◌+◌, ◌-◌, ◌<◌, ◌≤◌}
+use mathlib.Core.Path.{◌≡◌, ap, sym, ◌∙◌}
 use mathlib.Core.Bool.{Bool, false}
 use mathlib.Core.List.{List}
 use native.Mathlib.Omega.{arith}
 use Rattle.bits.specs.declared.BitPlace.{BitPlace}
-use Rattle.codec.specs.Answer.{got, next, refused}
+use Rattle.codec.specs.Answer.{next}
 use Rattle.codec.specs.Codec.{must}
-use Rattle.codec.specs.Refusals.{answer, fault_no}
+use Rattle.codec.specs.Refusals.{answer}
 use Rattle.codec.specs.declared.FieldFault.{FieldFault}
 use Rattle.std.specs.Prelude.{Ok, Err}
 use Rattle.reader.specs.Reading.{read_fill}

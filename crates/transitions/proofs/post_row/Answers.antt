@@ -50,12 +50,12 @@ pub returns-then-count-ge32 : goal.returns-then-count-ge32
 unfolding pending_no
 returns-then-count-ge32 c =
     let e = c.refusal-then-count-ge32.ensures.0 in
-    (post-refused c.args.t.now c.requires.0 (key_in c.args.key.now) (Err c.in-Err-place.at) (λ w. rw c.in-Err-place.is at c.in_ok-place.ensures.2) c.args.asked (addresses_in c.args.to.now) (answer_says c.args.said) c.requires.5 _ (e ∙ told-full _ _ c.in_ok-place.ensures.0 c.in_ok-place.ensures.1 _ (le-leb 32 _ (omega (arith, c.if-count-ge32.true, c.row_count-count.ensures)))) (ap (λ (v : Verdict). eqb v.number 0) e), c.refusal-then-count-ge32.ensures.1)
+    (post-refused c.args.t.now c.requires.0 (key_in c.args.key.now) (Err c.in-Err.at) (λ w. rw c.in-Err.is at c.in_ok-place.ensures.2) c.args.asked (addresses_in c.args.to.now) (answer_says c.args.said) c.requires.5 _ (e ∙ told-full _ _ c.in_ok-place.ensures.0 c.in_ok-place.ensures.1 _ (le-leb 32 _ (omega (arith, c.if-count-ge32.true, c.row_count-count.ensures)))) (ap (λ (v : Verdict). eqb v.number 0) e), c.refusal-then-count-ge32.ensures.1)
 
 pub put_row-requires : goal.put_row-requires
 put_row-requires c =
     let e = c.row_count-count.ensures in
-    let q = post-there c.args.t.now c.requires.0 (key_in c.args.key.now) (Err c.in-Err-place.at) (λ w. rw c.in-Err-place.is at c.in_ok-place.ensures.2) c.args.asked (addresses_in c.args.to.now) (answer_says c.args.said) c.requires.5 fine (told-done _ _ c.in_ok-place.ensures.0 c.in_ok-place.ensures.1 _ (lt-leb 32 _ (omega (arith, c.if-count-ge32.false, e)))) refl in
+    let q = post-there c.args.t.now c.requires.0 (key_in c.args.key.now) (Err c.in-Err.at) (λ w. rw c.in-Err.is at c.in_ok-place.ensures.2) c.args.asked (addresses_in c.args.to.now) (answer_says c.args.said) c.requires.5 fine (told-done _ _ c.in_ok-place.ensures.0 c.in_ok-place.ensures.1 _ (lt-leb 32 _ (omega (arith, c.if-count-ge32.false, e)))) refl in
     (c.requires.0, omega (arith, q.1, e), omega (arith, q.2, e), c.requires.1, c.requires.2, c.requires.3, q.0)
 
 pub returns : goal.returns
@@ -65,8 +65,8 @@ returns c =
     let n = (table_in c.args.t.now).count in
     let f = answer_says c.args.said in
     let row = row_octets (row_image (key_of (key_in c.args.key.now), make (ask_of c.args.asked) (map address_of (take to.count to.list)))) in
-    let e : c.put_row.new.t ≡ counted (n + 1) (inserted_at 1592 n c.in-Err-place.at row c.args.t.now) = c.put_row.ensures.0 ∙ ap (λ (m : ℕ). counted (m + 1) (inserted_at 1592 m c.in-Err-place.at row c.args.t.now)) c.row_count-count.ensures in (
+    let e : c.put_row.new.t ≡ counted (n + 1) (inserted_at 1592 n c.in-Err.at row c.args.t.now) = c.put_row.ensures.0 ∙ ap (λ (m : ℕ). counted (m + 1) (inserted_at 1592 m c.in-Err.at row c.args.t.now)) c.row_count-count.ensures in (
       subst (λ (u : List ℕ). Transition (named f (post (key_of (key_in c.args.key.now)) (make (ask_of c.args.asked) (map address_of (take to.count to.list))))) c.args.t.now fine u) (sym e)
-          (post-changed c.args.t.now c.requires.0 (key_in c.args.key.now) (Err c.in-Err-place.at) (λ w. rw c.in-Err-place.is at c.in_ok-place.ensures.2) c.args.asked to f c.requires.5 fine (told-done _ _ c.in_ok-place.ensures.0 c.in_ok-place.ensures.1 _ (lt-leb 32 _ (omega (arith, c.if-count-ge32.false, c.row_count-count.ensures)))) refl (clean (goal.at.returns c).Start) c.put_row.ensures.1),
+          (post-changed c.args.t.now c.requires.0 (key_in c.args.key.now) (Err c.in-Err.at) (λ w. rw c.in-Err.is at c.in_ok-place.ensures.2) c.args.asked to f c.requires.5 fine (told-done _ _ c.in_ok-place.ensures.0 c.in_ok-place.ensures.1 _ (lt-leb 32 _ (omega (arith, c.if-count-ge32.false, c.row_count-count.ensures)))) refl (clean (goal.at.returns c).Start) c.put_row.ensures.1),
       refl,
     )

@@ -30,15 +30,15 @@ returns-in_default c =
 
 pub remove_row-requires : goal.remove_row-requires
 remove_row-requires c =
-    let q = release-there c.args.t.now c.requires.0 (key_in c.args.key.now) (Ok c.in-Ok-place.row) (λ w. rw c.in-Ok-place.is at c.in_ok-place.ensures.2) (answer_says c.args.said) fine (told _ _ c.in_ok-place.ensures.0 c.in_ok-place.ensures.1 0) refl in
+    let q = release-there c.args.t.now c.requires.0 (key_in c.args.key.now) (Ok c.in-Ok.row) (λ w. rw c.in-Ok.is at c.in_ok-place.ensures.2) (answer_says c.args.said) fine (told _ _ c.in_ok-place.ensures.0 c.in_ok-place.ensures.1 0) refl in
     let e = c.row_count-count.ensures in
     (c.requires.0, omega (arith, q.0, e), omega (arith, q.1, e))
 
 pub returns : goal.returns
 unfolding answer_says answer_place
 returns c =
-    let e : c.remove_row.new.t ≡ counted ((table_in c.args.t.now).count - 1) (removed_at 1592 (table_in c.args.t.now).count c.in-Ok-place.row c.args.t.now) = c.remove_row.ensures ∙ ap (λ (n : ℕ). counted (n - 1) (removed_at 1592 n c.in-Ok-place.row c.args.t.now)) c.row_count-count.ensures in (
+    let e : c.remove_row.new.t ≡ counted ((table_in c.args.t.now).count - 1) (removed_at 1592 (table_in c.args.t.now).count c.in-Ok.row c.args.t.now) = c.remove_row.ensures ∙ ap (λ (n : ℕ). counted (n - 1) (removed_at 1592 n c.in-Ok.row c.args.t.now)) c.row_count-count.ensures in (
       subst (λ (u : List ℕ). Transition (named (answer_says c.args.said) (release (key_of (key_in c.args.key.now)))) c.args.t.now fine u) (sym e)
-          (release-changed c.args.t.now c.requires.0 (key_in c.args.key.now) (Ok c.in-Ok-place.row) (λ w. rw c.in-Ok-place.is at c.in_ok-place.ensures.2) (answer_says c.args.said) fine (told _ _ c.in_ok-place.ensures.0 c.in_ok-place.ensures.1 0) refl),
+          (release-changed c.args.t.now c.requires.0 (key_in c.args.key.now) (Ok c.in-Ok.row) (λ w. rw c.in-Ok.is at c.in_ok-place.ensures.2) (answer_says c.args.said) fine (told _ _ c.in_ok-place.ensures.0 c.in_ok-place.ensures.1 0) refl),
       refl,
     )

@@ -15,13 +15,13 @@ use Rattle.arguments.specs.Told.{pending_no, answer_says}
 use Rattle.transitions.proofs.Outcomes.{told}
 use Rattle.transitions.proofs.Tables.{early, receipt-refused, receipt-inside, receipt-row-fine, receipt-left}
 use Rattle.transitions.proofs.settle_row.Goals as goal
-use Rattle.transitions.proofs.settle_row.Goals.{In-Ok-place}
+use Rattle.transitions.proofs.settle_row.Goals.{In-Ok}
 
 lent : (n : ℕ) → n + 1592 - n ≡ 1592
 lent n = omega arith
 
-inside : (c : In-Ok-place) → c.in-Ok-place.at < 32
-inside c = receipt-inside c.args.t.now c.requires.0 (key_in c.args.key.now) (Ok c.in-Ok-place.at) (λ w. rw c.in-Ok-place.is at c.in_ok-place.ensures.2) (address_in c.args.from.now) c.args.code (answer_says c.args.said) fine (told _ _ c.in_ok-place.ensures.0 c.in_ok-place.ensures.1 0) refl
+inside : (c : In-Ok) → c.in-Ok.at < 32
+inside c = receipt-inside c.args.t.now c.requires.0 (key_in c.args.key.now) (Ok c.in-Ok.at) (λ w. rw c.in-Ok.is at c.in_ok-place.ensures.2) (address_in c.args.from.now) c.args.code (answer_says c.args.said) fine (told _ _ c.in_ok-place.ensures.0 c.in_ok-place.ensures.1 0) refl
 
 pub returns-in_err-place : goal.returns-in_err-place
 returns-in_err-place c = rw (handed _ c.in_err-place.field-0.0 c.from_residual.ensures.1) (early c.args.t.now c.requires.0 _ (answer_says c.args.said) _ c.in_err-place.ensures.0 c.in_err-place.ensures.1, c.in_err-place.ensures.2)
@@ -33,21 +33,21 @@ returns-in_default c =
     (receipt-refused c.args.t.now c.requires.0 (key_in c.args.key.now) (Err c.in_default.field-0) (λ w. rw c.in_default.is at c.in_ok-place.ensures.2) (address_in c.args.from.now) c.args.code (answer_says c.args.said) _ (e ∙ told _ _ c.in_ok-place.ensures.0 c.in_ok-place.ensures.1 26) (ap (λ (v : Verdict). eqb v.number 0) e), c.refusal.ensures.1)
 
 pub overflow_mul-start : goal.overflow_mul-start
-overflow_mul-start c = let k = inside (goal.at.overflow_mul-start c).In-Ok-place in search rules
+overflow_mul-start c = let k = inside (goal.at.overflow_mul-start c).In-Ok in search rules
 
 pub overflow_add-end : goal.overflow_add-end
-overflow_add-end c = let k = inside (goal.at.overflow_add-end c).In-Ok-place in search rules
+overflow_add-end c = let k = inside (goal.at.overflow_add-end c).In-Ok in search rules
 
 pub slice_bounds-settled_row-end : goal.slice_bounds-settled_row-end
-slice_bounds-settled_row-end c = let k = inside (goal.at.slice_bounds-settled_row-end c).In-Ok-place in let l = c.requires.0 in omega arith
+slice_bounds-settled_row-end c = let k = inside (goal.at.slice_bounds-settled_row-end c).In-Ok in let l = c.requires.0 in omega arith
 
 pub settled_row-requires : goal.settled_row-requires
 settled_row-requires c = (
   search rules,
   c.requires.2,
-  ap (λ (j : ℕ). row_fine (row_in (take j (drop (c.in-Ok-place.at * 1592) c.args.t.now)))) (lent (c.in-Ok-place.at * 1592)) ∙ receipt-row-fine c.args.t.now c.requires.0 (key_in c.args.key.now) (Ok c.in-Ok-place.at) (λ w. rw c.in-Ok-place.is at c.in_ok-place.ensures.2) (address_in c.args.from.now) c.args.code (answer_says c.args.said) fine (told _ _ c.in_ok-place.ensures.0 c.in_ok-place.ensures.1 0) refl,
+  ap (λ (j : ℕ). row_fine (row_in (take j (drop (c.in-Ok.at * 1592) c.args.t.now)))) (lent (c.in-Ok.at * 1592)) ∙ receipt-row-fine c.args.t.now c.requires.0 (key_in c.args.key.now) (Ok c.in-Ok.at) (λ w. rw c.in-Ok.is at c.in_ok-place.ensures.2) (address_in c.args.from.now) c.args.code (answer_says c.args.said) fine (told _ _ c.in_ok-place.ensures.0 c.in_ok-place.ensures.1 0) refl,
   c.requires.4 c.in_ok-place.ensures.1,
 )
 
 pub returns : goal.returns
-returns c = (receipt-left c.args.t.now c.requires.0 (key_in c.args.key.now) (Ok c.in-Ok-place.at) (λ w. rw c.in-Ok-place.is at c.in_ok-place.ensures.2) (address_in c.args.from.now) c.args.code (answer_says c.args.said) fine (told _ _ c.in_ok-place.ensures.0 c.in_ok-place.ensures.1 0) refl _ (lent (c.in-Ok-place.at * 1592)) _ c.settled_row.new.r c.settled_row.ensures.0 c.settled_row.ensures.2, c.settled_row.ensures.1)
+returns c = (receipt-left c.args.t.now c.requires.0 (key_in c.args.key.now) (Ok c.in-Ok.at) (λ w. rw c.in-Ok.is at c.in_ok-place.ensures.2) (address_in c.args.from.now) c.args.code (answer_says c.args.said) fine (told _ _ c.in_ok-place.ensures.0 c.in_ok-place.ensures.1 0) refl _ (lent (c.in-Ok.at * 1592)) _ c.settled_row.new.r c.settled_row.ensures.0 c.settled_row.ensures.2, c.settled_row.ensures.1)

@@ -1,10 +1,10 @@
 -- `read_block::references::read_entries` meets its contract. The invariant: what is read behind the entries so far completes the list. Assumes nothing.
 use Prim.Native.Nat.{◌+◌, ◌-◌}
-use mathlib.Core.Path.{◌≡◌, refl, sym, ap, ◌∙◌}
+use mathlib.Core.Path.{◌≡◌, refl, ◌∙◌}
 use mathlib.Core.Bool.{true, false}
 use native.Mathlib.Omega.{arith}
 use lib.Dec.{lit<}
-use lib.ListN.{length, set}
+use lib.ListN.{set}
 use Rattle.bits.specs.Datagrams.{bits_in}
 use Rattle.codec.specs.Codec.{◌&◌}
 use Rattle.codec.specs.Lists.{recurs}
@@ -12,9 +12,8 @@ use Rattle.codec.proofs.Compose.{Gets, ended, shape-got, shape-stop, group-got, 
 use Rattle.header.specs.Table.{reference, references}
 use Rattle.header.proofs.Lawful.{reference-lawful}
 use Rattle.header.specs.Zero.{no_reference}
-use Rattle.into.proofs.Ready.{zeros-long}
 use Rattle.into.proofs.Telling.{telling-stop, telling-got}
-use Rattle.into.proofs.Putting.{putting-none, putting-long, putting-room, putting-part, putting-part-long, putting-more, putting-end, putting-octets, putting-typed, putting-stop}
+use Rattle.into.proofs.Putting.{putting-none, putting-room, putting-part, putting-part-long, putting-more, putting-end, putting-octets, putting-typed, putting-stop}
 use Rattle.record_octets.specs.Record.{reference_octets}
 use Rattle.record_octets.specs.Typed.{TypedReference}
 use Rattle.record_octets.proofs.Back.{reference-long}

@@ -1,9 +1,8 @@
 -- `reader::fill::read_fill` meets its contract. Assumes nothing.
-use Prim.Native.Nat.{ℕ, ◌-◌}
-use mathlib.Core.Path.{◌≡◌, ap, sym, ◌∙◌}
+use Prim.Native.Nat.{ℕ}
+use mathlib.Core.Path.{ap, sym, ◌∙◌}
 use native.Mathlib.Omega.{arith}
 use Rattle.bits.specs.Datagrams.{bits_in}
-use Rattle.bits.specs.Units.{fill_bits}
 use Rattle.codec.proofs.Compose.{handed}
 use Rattle.reader.specs.Reading.{read_fill}
 use Rattle.reader.proofs.FillBits.{fill_more, fill_stop, fill_none}
