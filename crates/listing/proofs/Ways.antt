@@ -18,7 +18,10 @@ use Rattle.table.specs.declared.Table.{Table}
 use Rattle.table_octets.specs.Table.{row_in, table_in}
 use Rattle.row_text.specs.Text.{row_text, count_line, row_at, listed}
 use Rattle.row_text.specs.Puts.{Puts}
-use Rattle.listing.specs.Listing.{Listing, done, rejected, listing_of, listing, output_after}
+use Rattle.listing.specs.Listing.{Listing, done, rejected, listing_of, listing, output_after, listing_no, told}
+use Rattle.listing.specs.declared.ListingFault.{ListingFault}
+use Rattle.codec.specs.declared.Refusal.{Refusal}
+use Rattle.std.specs.Prelude.{Err}
 
 at_row : (l : List Row) (i : ℕ) (d : Row) → i < length l → row_at (map row_of l) i ≡ row_text (row_of (get_or l i d))
 unfolding row_at
@@ -79,3 +82,8 @@ module _ (t : Table) (n : ℕ) (out : List ℕ) where
     is-listed e after q w =
         let z : 0 + length (listed (see t) n) ≡ length (listed (see t) n) = omega arith in
         (ap done (w.ends ∙ z) ∙ rw (well, e), rw (well, e) (rw z at w.octets))
+
+-- a refusal's answer
+pub told-plain : (f : ListingFault) (y : Refusal ListingFault) → (y.fault ≡ f) × (y.place.0 ≡ 0) × (y.block.0 ≡ 0) → told (Err y) ≡ rejected (listing_no f) 0 0
+unfolding told
+told-plain f y h = λ i. rejected (listing_no (h.0 i)) (h.1 i) (h.2 i)

@@ -36,9 +36,9 @@ fn play_block(t: &mut [u8; TABLE], h: &[u8; RECORD], number: u32, count: OctetSi
     ensures { Plays (turn (header_in h.now) number count.0) t.old t.new }
 {
     if is_receipt(h, number) {
-        receipt(t, h, number, count);
+        let _ = receipt(t, h, number, count);
     } else {
-        post(t, h, number, count);
+        let _ = post(t, h, number, count);
     }
 }
 

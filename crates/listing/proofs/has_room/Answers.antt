@@ -15,8 +15,8 @@ use Rattle.listing.proofs.has_room.Goals as goal
 pub returns-then-room-ge-LONGEST : goal.returns-then-room-ge-LONGEST
 returns-then-room-ge-LONGEST c = sym (le-leb (length (listed (see (table_in c.args.t.now)) c.args.number)) c.args.room (omega (arith, listed-bounded (table_in c.args.t.now) c.args.number c.requires.0)))
 
-pub listed_length-size-requires : goal.listed_length-size-requires
-listed_length-size-requires c = ((fine-table (table_in c.args.t.now) c.requires.0).fits, c.requires.1)
+pub listed_length-requires : goal.listed_length-requires
+listed_length-requires c = ((fine-table (table_in c.args.t.now) c.requires.0).fits, c.requires.1)
 
 pub returns : goal.returns
-returns c = ap (λ (k : ℕ). leb k c.args.room) c.listed_length-size.ensures
+returns c = ap (λ (k : ℕ). leb k c.args.room) c.listed_length.ensures

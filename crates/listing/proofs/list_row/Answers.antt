@@ -6,21 +6,21 @@ use borrow.Author.Tests.{leb-true}
 use Rattle.table.proofs.Parts.{fine-table}
 use Rattle.table_octets.specs.Table.{table_in}
 use Rattle.listing.specs.Listing.{told}
-use Rattle.listing.proofs.Ways.{ill-formed, no_room, is-listed}
+use Rattle.listing.proofs.Ways.{told-plain, ill-formed, no_room, is-listed}
 use Rattle.listing.proofs.list_row.Goals as goal
 
 pub returns-then-is_none : goal.returns-then-is_none
-returns-then-is_none c = let w = ill-formed (table_in c.args.t.now) c.args.number c.args.out.now (sym c.inspect.ensures.0 ∙ c.is_none.ensures ∙ ap not c.if-is_none.true) in (c.refusal.ensures ∙ w.0, w.1)
+returns-then-is_none c = let w = ill-formed (table_in c.args.t.now) c.args.number c.args.out.now (sym c.inspect.ensures.0 ∙ c.is_none.ensures ∙ ap not c.if-is_none.true) in (told-plain _ _ c.from.ensures ∙ w.0, w.1)
 
 pub has_room-requires : goal.has_room-requires
 has_room-requires c = ((sym c.inspect.ensures.0 ∙ c.is_none.ensures ∙ ap not c.if-is_none.false), search rules)
 
 pub returns-then-not-has_room : goal.returns-then-not-has_room
-returns-then-not-has_room c = let w = no_room (table_in c.args.t.now) c.args.number c.args.out.now (sym c.inspect.ensures.0 ∙ c.is_none.ensures ∙ ap not c.if-is_none.false) (sym c.has_room.ensures ∙ c.if-not-has_room.true) in (c.refusal-then-not-has_room.ensures ∙ w.0, w.1)
+returns-then-not-has_room c = let w = no_room (table_in c.args.t.now) c.args.number c.args.out.now (sym c.inspect.ensures.0 ∙ c.is_none.ensures ∙ ap not c.if-is_none.false) (sym c.has_room.ensures ∙ c.if-not-has_room.true) in (told-plain _ _ c.from-then-not-has_room.ensures ∙ w.0, w.1)
 
-pub put_listed-end-requires : goal.put_listed-end-requires
-put_listed-end-requires c = (leb-true _ _ (sym c.has_room.ensures ∙ c.if-not-has_room.false), (fine-table (table_in c.args.t.now) (sym c.inspect.ensures.0 ∙ c.is_none.ensures ∙ ap not c.if-is_none.false)).fits, search rules)
+pub put_listed-requires : goal.put_listed-requires
+put_listed-requires c = (leb-true _ _ (sym c.has_room.ensures ∙ c.if-not-has_room.false), (fine-table (table_in c.args.t.now) (sym c.inspect.ensures.0 ∙ c.is_none.ensures ∙ ap not c.if-is_none.false)).fits, search rules)
 
 pub returns : goal.returns
 unfolding told
-returns c = is-listed (table_in c.args.t.now) c.args.number c.args.out.now (sym c.inspect.ensures.0 ∙ c.is_none.ensures ∙ ap not c.if-is_none.false) (sym c.has_room.ensures ∙ c.if-not-has_room.false) _ _ c.put_listed-end.ensures
+returns c = is-listed (table_in c.args.t.now) c.args.number c.args.out.now (sym c.inspect.ensures.0 ∙ c.is_none.ensures ∙ ap not c.if-is_none.false) (sym c.has_room.ensures ∙ c.if-not-has_room.false) _ _ c.put_listed.ensures

@@ -17,9 +17,9 @@ pub returns-then-count-number : goal.returns-then-count-number
 unfolding table_in
 returns-then-count-number c = ap length (sym (none-listed c.args.t.now c.args.number c.requires.0 (omega (arith, c.load_word-count.ensures))))
 
-pub row_with-row-requires : goal.row_with-row-requires
+pub row_with-requires : goal.row_with-requires
 unfolding table_in
-row_with-row-requires c = (omega arith, omega (arith, c.load_word-count.ensures), c.requires.0, c.requires.1)
+row_with-requires c = (omega arith, omega (arith, c.load_word-count.ensures), c.requires.0, c.requires.1)
 
 pub returns : goal.returns
-returns c = c.row_length.ensures.0 ∙ ap length (sym c.row_with-row.ensures.0)
+returns c = c.row_length.ensures.0 ∙ ap length (sym c.row_with.ensures.0)

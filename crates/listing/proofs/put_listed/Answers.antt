@@ -21,12 +21,12 @@ pub returns-then-count-number : goal.returns-then-count-number
 unfolding table_in
 returns-then-count-number c = same-puts (none-listed c.args.t.now c.args.number c.requires.1 (omega (arith, c.load_word-count.ensures))) (nothing-puts _ 0)
 
-pub row_with-row-requires : goal.row_with-row-requires
+pub row_with-requires : goal.row_with-requires
 unfolding table_in
-row_with-row-requires c = (omega arith, omega (arith, c.load_word-count.ensures), c.requires.1, c.requires.2)
+row_with-requires c = (omega arith, omega (arith, c.load_word-count.ensures), c.requires.1, c.requires.2)
 
 pub put_row-requires : goal.put_row-requires
-put_row-requires c = let e = ap length c.row_with-row.ensures.0 in (omega (arith, c.requires.0), c.row_with-row.ensures.1)
+put_row-requires c = let e = ap length c.row_with.ensures.0 in (omega (arith, c.requires.0), c.row_with.ensures.1)
 
 pub returns : goal.returns
-returns c = same-puts c.row_with-row.ensures.0 c.put_row.ensures
+returns c = same-puts c.row_with.ensures.0 c.put_row.ensures
