@@ -77,7 +77,7 @@ pub fn of_listing(answer: Result<OctetSize, Refusal<ListingFault>>) -> SizeAnswe
     ensures { result ≡ list_numbers (listing.told answer) }
 {
     match answer {
-        Ok(octets) => size(octets),
+        Ok(written) => size(written),
         Err(e) => refused(u32::from(e.fault), e.place, e.block),
     }
 }
