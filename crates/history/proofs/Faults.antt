@@ -17,7 +17,7 @@ use Rattle.header.specs.Table.{maybe, optional_text, unit_name, address, address
 use Rattle.codec.specs.Verdict.{Verdict, plain, fine, in_block, first_of}
 use Rattle.header.specs.Order.{Rule, over, in_order}
 use Rattle.header.specs.Rules.{rules, setting_of, used_blocks}
-use Rattle.header.specs.Sizes.{total, shares, size_rules, wrong_size, judgement}
+use Rattle.header.specs.Sizes.{shares, size_rules, wrong_size, judgement}
 use Rattle.header.specs.declared.Blocks.{Blocks}
 use Rattle.header.specs.declared.Setting.{Setting}
 use Rattle.header.specs.declared.Header.{Header}

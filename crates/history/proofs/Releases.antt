@@ -1,11 +1,10 @@
 -- A release gives 30, an illegal key's 3, 4 or 6, or 26, and no block, on any table, by its contract. Assumes nothing.
 use Prim.Native.Nat.{ℕ, zero, suc}
-use mathlib.Core.Path.{◌≡◌, refl, sym, ◌∙◌, subst}
+use mathlib.Core.Path.{refl, sym, subst}
 use mathlib.Core.Bool.{Bool, true, false}
 use mathlib.Core.List.{List, [], ◌∷◌, map}
 use mathlib.Core.Logic.{inl, inr}
 use mathlib.Core.Option.{Option, none, some}
-use lib.ListN.{length}
 use Rattle.codec.specs.Answer.{pick}
 use Rattle.codec.specs.Verdict.{Verdict, plain}
 use Rattle.calls.specs.Keyed.{find}

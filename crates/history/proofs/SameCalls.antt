@@ -11,20 +11,20 @@ use lib.Dec.{leb, eqb, lit<, lit≤}
 use borrow.Author.Tests.{leb-true, eqb-true}
 use native.Mathlib.Omega.{arith}
 use Rattle.codec.specs.Answer.{pick}
-use Rattle.codec.specs.Codec.{first, present, viewed}
+use Rattle.codec.specs.Codec.{first, viewed}
 use Rattle.codec.proofs.Fields.{and_left, and_right}
 use Rattle.codec.proofs.Sequences.{first-zero, first-same}
 use Rattle.codec.proofs.ListLaws.{fine-legal}
 use Rattle.codec.proofs.ListEnds.{whole-array, count_most, entry-legal}
 use Rattle.header.specs.Zero.{no_address, no_block}
-use Rattle.header.specs.Table.{address, addresses, originator, front, stamp, block, blocks}
+use Rattle.header.specs.Table.{address, addresses, front, stamp, block, blocks}
 use Rattle.header.specs.Same.{same_address, same_addresses, same_optional_address, same_optional_addresses, same_front, same_optional_stamp, same_optional_requests, same_times, same_compliance, same_response, same_optional_response, same_block, same_blocks, Same}
 use Rattle.header.specs.declared.Address.{Address as DeclaredAddress}
 use Rattle.header.specs.declared.Block.{Block}
 use Rattle.header.specs.declared.Header.{Header}
 use Rattle.header.proofs.Legal.{front-recipients, addressees-legal}
 use Rattle.codec.specs.Verdict.{Verdict, plain, whether, first_of}
-use Rattle.writer.specs.Writing.{fields_fault, fault_of}
+use Rattle.writer.specs.Writing.{fields_fault}
 use Rattle.writer.proofs.Valid.{valid-parts}
 use Rattle.roundtrip.proofs.SameRecords.{same-fault}
 use Rattle.order.specs.Values.{address_of, key_of, key_fault}

@@ -9,8 +9,7 @@ use lib.Dec.{leb, eqb, lit<}
 use borrow.Author.Tests.{leb-true, eqb-true}
 use native.Mathlib.Omega.{arith}
 use Rattle.codec.specs.Answer.{pick}
-use Rattle.codec.specs.Codec.{number, flag, first, tested, same, viewed, present, ◌then_by◌}
-use Rattle.codec.specs.Characters.{characters}
+use Rattle.codec.specs.Codec.{flag, first, tested, same, viewed, present, ◌then_by◌}
 use Rattle.codec.specs.Lists.{cells}
 use Rattle.codec.proofs.Lawful.{same_check}
 use Rattle.codec.proofs.Sequences.{first-zero}
@@ -18,7 +17,7 @@ use Rattle.codec.proofs.ListLaws.{fine-legal}
 use Rattle.optional.specs.declared.OptionalNumber.{OptionalNumber}
 use Rattle.text.specs.Texts.{text, no_text}
 use Rattle.text.specs.declared.Text.{Text}
-use Rattle.header.specs.Table.{maybe, unit_name, address, date, time, stamp}
+use Rattle.header.specs.Table.{maybe, unit_name, address, stamp}
 use Rattle.header.specs.Same.{same_number, same_text, same_optional_text, same_address, same_stamp}
 use Rattle.header.specs.declared.Address.{Address as DeclaredAddress}
 use Rattle.header.specs.declared.Stamp.{Stamp}

@@ -8,8 +8,7 @@ use lib.ListN.{length, take, drop}
 use lib.Seq.{take_at, length-take-le}
 use native.Mathlib.Omega.{arith}
 use Rattle.bits.specs.Bits.{AllOctets}
-use Rattle.header.specs.Same.{Same, header_norm}
-use Rattle.header.specs.declared.Header.{Header}
+use Rattle.header.specs.Same.{header_norm}
 use Rattle.record_octets.specs.Record.{header_in, header_octets}
 use Rattle.reader.specs.Reading.{Reading, reading, accepted, rejected, user_data}
 use Rattle.reader.specs.Told as read

@@ -16,9 +16,9 @@ use Rattle.bits.proofs.OctetBits.{bits_of-append}
 use Rattle.bits.proofs.Packing.{bits-octets, length-octets}
 use Rattle.codec.specs.Answer.{got}
 use Rattle.codec.specs.Codec.{number, flag, nothing, present, viewed, ◌then_by◌}
-use Rattle.codec.proofs.Lawful.{read-back, behind}
+use Rattle.codec.proofs.Lawful.{read-back}
 use Rattle.optional.specs.Optionals.{optional_number}
-use Rattle.header.specs.Table.{front, blocks, wire}
+use Rattle.header.specs.Table.{wire}
 use Rattle.header.specs.Rules.{◌⇒◌, setting_of}
 use Rattle.header.specs.Same.{header_norm}
 use Rattle.header.specs.declared.Header.{Header}

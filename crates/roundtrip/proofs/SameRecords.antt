@@ -9,7 +9,7 @@ use native.Mathlib.Omega.{arith}
 use Rattle.codec.specs.Codec.{first, viewed, ◌then_by◌}
 use Rattle.codec.specs.Verdict.{first_of}
 use Rattle.codec.proofs.Lawful.{same_check, same_bits}
-use Rattle.header.specs.Table.{maybe, front, blocks, wire}
+use Rattle.header.specs.Table.{maybe, wire}
 use Rattle.header.specs.Rules.{setting_of}
 use Rattle.header.specs.Sizes.{judgement}
 use Rattle.header.specs.Same.{Same, header_norm}

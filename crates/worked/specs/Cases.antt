@@ -20,7 +20,6 @@ use Rattle.table.specs.declared.Table.{Table}
 use Rattle.calls.specs.Runs.{answers}
 use Rattle.arguments.specs.Arguments.{Arguments, posting, receiving, releasing, call_of, message}
 use Rattle.history.specs.Sheet.{sheet}
-use Rattle.writer.specs.Writing as Writing
 use Rattle.writer.specs.Writing.{Writing, done, writing, output_after}
 
 -- a datagram, what reading it gives, and the user data behind its header; or a record with a count of user data and an output, what writing it gives, and the
