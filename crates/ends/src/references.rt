@@ -26,11 +26,9 @@ fn end_entries(at: BitPlace, list: &[u8], held: u32) -> BitPlace
 {
     let count = held as usize;
     let mut place = at;
-    let mut i: usize = 0;
-    while i < count {
+    for i in 0..count {
         let behind = end_flag(place);
         place = end_reference(behind, entry(list, i, in_references::ENTRY));
-        i += 1;
     }
     place
 }
