@@ -62,15 +62,12 @@ pub fn write_optional_references(out: &mut [u8], at: BitPlace, x: &[u8]) -> BitP
     requires { Room out.old at.0 (optional_references.size (optional_references_in x.now)) × (optional_references.check (optional_references_in x.now) ≡ 0) × (length x.now ≡ size_of_optional_references) }
     ensures { Writes optional_references (optional_references_in x.now) out.old out.new at.0 result.0 }
 {
-    let present = load_flag(
-        &x[in_optional_references::PRESENT..in_optional_references::REFERENCES],
-    );
     let next = write_mark(
         out,
         at,
         &x[in_optional_references::PRESENT..in_optional_references::REFERENCES],
     );
-    if present {
+    if load_flag(&x[in_optional_references::PRESENT..in_optional_references::REFERENCES]) {
         return write_references(
             out,
             next,
