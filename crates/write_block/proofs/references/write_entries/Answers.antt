@@ -1,13 +1,13 @@
 -- `write_block::references::write_entries` meets its contract. The invariant: what is written behind the entries so far completes the list. Assumes nothing.
 use borrow.Author.Rules.{rules}
-use Prim.Native.Nat.{ℕ, ◌+◌, ◌-◌, ◌<◌, ◌≤◌}
+use Prim.Native.Nat.{◌-◌}
 use mathlib.Core.Path.{◌≡◌}
 use lib.Dec.{lit≤}
 use native.Mathlib.Omega.{arith}
 use Rattle.codec.specs.Codec.{viewed}
 use Rattle.codec.specs.Lists.{listed, cells}
 use Rattle.codec.proofs.Compose.{shape-writes}
-use Rattle.codec.proofs.ListEnds.{count_most}
+use Rattle.codec.proofs.ListEnds.{count-some, count_most}
 use Rattle.codec.proofs.ListWrites.{entries_none, entry-there, entry-room, last-room, entries-more, entries-last}
 use Rattle.header.specs.Zero.{no_reference}
 use Rattle.header.specs.Table.{reference, references}
@@ -20,13 +20,9 @@ legal-list : (x : References) → references.check x ≡ 0 → (cells no_referen
 unfolding references viewed
 legal-list x h = h
 
--- the loop ends at the last entry
-at-last : (n k : ℕ) → n < k → k ≤ n + 1 → k - 1 ≡ n
-at-last n k a b = omega (arith, a, b)
-
 pub overflow_sub-last : goal.overflow_sub-last
 unfolding references viewed
-overflow_sub-last c = let k = entry-there no_reference reference 4 3 _ _ c.requires.1 (lit≤ tt) _ _ _ _ _ (entries_none no_reference reference 4 3 _ _ c.requires.1 (lit≤ tt) c.args.out.now c.args.at.0) in omega (arith, k)
+overflow_sub-last c = let k = count-some no_reference reference 4 3 _ _ c.requires.1 in omega (arith, k)
 
 pub loop-n-init : goal.loop-n-init
 unfolding references viewed
@@ -61,7 +57,7 @@ unfolding references viewed
 write_entry-requires c =
     let k = entry-there no_reference reference 4 3 _ _ c.requires.1 (lit≤ tt) _ _ _ _ _ c.loop-n.invariant in let m = count_most no_reference reference 4 3 _ _ c.requires.1 in
     let g = c.loop-n.invariant.long in
-    let z = at-last c.loop-n.n c.args.held k (omega arith) in
+    let z : c.args.held - 1 ≡ c.loop-n.n = omega (arith, k) in
     let e = many-entry reference_in 112 4 c.loop-n.n c.args.list.now _ no_reference (rw z at c.entry-2.ensures.0) (omega arith) in
     rw e ((last-room no_reference reference 4 3 _ _ c.requires.1 (lit≤ tt) _ _ _ _ _ c.loop-n.invariant no_reference (omega arith) _ (omega (arith, c.requires.0.0)), last-room no_reference reference 4 3 _ _ c.requires.1 (lit≤ tt) _ _ _ _ _ c.loop-n.invariant no_reference (omega arith) _ c.requires.0.1), c.entry-2.ensures.1)
 
@@ -71,7 +67,7 @@ returns c =
     let l = legal-list (references_of c.args.list.now c.args.held) c.requires.1 in
     let k = entry-there no_reference reference 4 3 _ _ l (lit≤ tt) _ _ _ _ _ c.loop-n.invariant in
     let m = count_most no_reference reference 4 3 _ _ l in
-    let z = at-last c.loop-n.n c.args.held k (omega arith) in
+    let z : c.args.held - 1 ≡ c.loop-n.n = omega (arith, k) in
     let e = many-entry reference_in 112 4 c.loop-n.n c.args.list.now _ no_reference (rw z at c.entry-2.ensures.0) (omega arith) in
     let w = rw e at c.write_entry.ensures in
     shape-writes _ _ _ _ _ _ _ _ _ _ _ (entries-last no_reference reference 4 3 _ _ l (lit≤ tt) _ _ _ _ _ c.loop-n.invariant no_reference _ _ (omega arith) w)
