@@ -27,11 +27,9 @@ fn end_entries(at: BitPlace, list: &[u8], held: u32) -> BitPlace
 {
     let count = held as usize;
     let mut place = at;
-    let mut i: usize = 0;
-    while i < count {
+    for i in 0..count {
         let behind = end_flag(place);
         place = end_address(behind, entry(list, i, in_addresses::ENTRY));
-        i += 1;
     }
     place
 }

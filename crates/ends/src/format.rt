@@ -32,9 +32,8 @@ pub fn end_optional_identity(at: BitPlace, x: &[u8]) -> BitPlace
     requires { Placed at.0 (optional_identity.size (optional_identity_in x.now)) × (length x.now ≡ size_of_optional_identity) }
     ensures { result.0 ≡ at.0 + optional_identity.size (optional_identity_in x.now) }
 {
-    let present = load_flag(&x[in_optional_identity::PRESENT..in_optional_identity::IDENTITY]);
     let behind = end_flag(at);
-    if present {
+    if load_flag(&x[in_optional_identity::PRESENT..in_optional_identity::IDENTITY]) {
         return end_identity(
             behind,
             &x[in_optional_identity::IDENTITY..in_optional_identity::END],
@@ -48,8 +47,7 @@ fn end_standard_version(at: BitPlace, version: u32, x: &[u8]) -> BitPlace
     requires { Placed at.0 ((standard_version version).size (optional_number_in x.now)) × (length x.now ≡ size_of_optional_number) }
     ensures { result.0 ≡ at.0 + (standard_version version).size (optional_number_in x.now) }
 {
-    let lacking = lacks_standard_version(version);
-    if lacking {
+    if lacks_standard_version(version) {
         return at;
     }
     end_optional(at, STANDARD_VERSION, x)

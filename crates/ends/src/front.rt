@@ -18,9 +18,8 @@ pub fn end_originator(at: BitPlace, x: &[u8]) -> BitPlace
     requires { Placed at.0 (originator.size (optional_address_in x.now)) × (length x.now ≡ size_of_optional_address) }
     ensures { result.0 ≡ at.0 + originator.size (optional_address_in x.now) }
 {
-    let present = load_flag(&x[in_optional_address::PRESENT..in_optional_address::ADDRESS]);
     let behind = end_flag(at);
-    if present {
+    if load_flag(&x[in_optional_address::PRESENT..in_optional_address::ADDRESS]) {
         return end_address(
             behind,
             &x[in_optional_address::ADDRESS..in_optional_address::END],
@@ -34,9 +33,8 @@ pub fn end_addressees(at: BitPlace, x: &[u8]) -> BitPlace
     requires { Placed at.0 (recipients.size (optional_addresses_in x.now)) × (recipients.check (optional_addresses_in x.now) ≡ 0) × (length x.now ≡ size_of_optional_addresses) }
     ensures { result.0 ≡ at.0 + recipients.size (optional_addresses_in x.now) }
 {
-    let present = load_flag(&x[in_optional_addresses::PRESENT..in_optional_addresses::ADDRESSES]);
     let behind = end_flag(at);
-    if present {
+    if load_flag(&x[in_optional_addresses::PRESENT..in_optional_addresses::ADDRESSES]) {
         return end_addresses(
             behind,
             &x[in_optional_addresses::ADDRESSES..in_optional_addresses::END],

@@ -26,11 +26,9 @@ fn end_entries(at: BitPlace, list: &[u8], held: u32) -> BitPlace
 {
     let count = held as usize;
     let mut place = at;
-    let mut i: usize = 0;
-    while i < count {
+    for i in 0..count {
         let behind = end_flag(place);
         place = end_reference(behind, entry(list, i, in_references::ENTRY));
-        i += 1;
     }
     place
 }
@@ -49,11 +47,8 @@ pub fn end_optional_references(at: BitPlace, x: &[u8]) -> BitPlace
     requires { Placed at.0 (optional_references.size (optional_references_in x.now)) × (optional_references.check (optional_references_in x.now) ≡ 0) × (length x.now ≡ size_of_optional_references) }
     ensures { result.0 ≡ at.0 + optional_references.size (optional_references_in x.now) }
 {
-    let present = load_flag(
-        &x[in_optional_references::PRESENT..in_optional_references::REFERENCES],
-    );
     let behind = end_flag(at);
-    if present {
+    if load_flag(&x[in_optional_references::PRESENT..in_optional_references::REFERENCES]) {
         return end_references(
             behind,
             &x[in_optional_references::REFERENCES..in_optional_references::END],

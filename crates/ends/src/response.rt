@@ -44,9 +44,8 @@ pub fn end_optional_response(at: BitPlace, x: &[u8]) -> BitPlace
     requires { Placed at.0 (optional_response.size (optional_response_in x.now)) × (length x.now ≡ size_of_optional_response) }
     ensures { result.0 ≡ at.0 + optional_response.size (optional_response_in x.now) }
 {
-    let present = load_flag(&x[in_optional_response::PRESENT..in_optional_response::RESPONSE]);
     let behind = end_flag(at);
-    if present {
+    if load_flag(&x[in_optional_response::PRESENT..in_optional_response::RESPONSE]) {
         return end_response(
             behind,
             &x[in_optional_response::RESPONSE..in_optional_response::END],

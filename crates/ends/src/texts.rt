@@ -14,9 +14,8 @@ pub fn end_optional_text(at: BitPlace, most: usize, x: &[u8]) -> BitPlace
     requires { Placed at.0 ((optional_text most).size (optional_text_in x.now)) × (most ≤ 64) × (length x.now ≡ size_of_optional_text) }
     ensures { result.0 ≡ at.0 + (optional_text most).size (optional_text_in x.now) }
 {
-    let present = load_flag(&x[in_optional_text::PRESENT..in_optional_text::TEXT]);
     let behind = end_flag(at);
-    if present {
+    if load_flag(&x[in_optional_text::PRESENT..in_optional_text::TEXT]) {
         return end_text(
             behind,
             most,

@@ -15,9 +15,8 @@ pub fn end_optional_stamp(at: BitPlace, x: &[u8]) -> BitPlace
     requires { Placed at.0 (optional_stamp.size (optional_stamp_in x.now)) × (length x.now ≡ size_of_optional_stamp) }
     ensures { result.0 ≡ at.0 + optional_stamp.size (optional_stamp_in x.now) }
 {
-    let present = load_flag(&x[in_optional_stamp::PRESENT..in_optional_stamp::STAMP]);
     let behind = end_flag(at);
-    if present {
+    if load_flag(&x[in_optional_stamp::PRESENT..in_optional_stamp::STAMP]) {
         return end_stamp(behind, &x[in_optional_stamp::STAMP..in_optional_stamp::END]);
     }
     behind
@@ -28,9 +27,8 @@ pub fn end_optional_dtg(at: BitPlace, x: &[u8]) -> BitPlace
     requires { Placed at.0 (optional_dtg.size (optional_dtg_in x.now)) × (length x.now ≡ size_of_optional_dtg) }
     ensures { result.0 ≡ at.0 + optional_dtg.size (optional_dtg_in x.now) }
 {
-    let present = load_flag(&x[in_optional_dtg::PRESENT..in_optional_dtg::DTG]);
     let behind = end_flag(at);
-    if present {
+    if load_flag(&x[in_optional_dtg::PRESENT..in_optional_dtg::DTG]) {
         return end_dtg(behind);
     }
     behind
@@ -50,9 +48,8 @@ pub fn end_optional_requests(at: BitPlace, x: &[u8]) -> BitPlace
     requires { Placed at.0 (optional_requests.size (optional_requests_in x.now)) × (length x.now ≡ size_of_optional_requests) }
     ensures { result.0 ≡ at.0 + optional_requests.size (optional_requests_in x.now) }
 {
-    let present = load_flag(&x[in_optional_requests::PRESENT..in_optional_requests::REQUESTS]);
     let behind = end_flag(at);
-    if present {
+    if load_flag(&x[in_optional_requests::PRESENT..in_optional_requests::REQUESTS]) {
         return end_requests(behind);
     }
     behind

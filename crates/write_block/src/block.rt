@@ -58,14 +58,18 @@ fn write_entries(out: &mut [u8], at: BitPlace, version: u32, list: &[u8], held: 
     requires { Room out.old at.0 ((blocks version).size (blocks_of list.now held)) × ((blocks version).check (blocks_of list.now held) ≡ 0) × (length list.now ≡ size_of_blocks_list) }
     ensures { Writes (blocks version) (blocks_of list.now held) out.old out.new at.0 result.0 }
 {
-    let count = held as usize;
-    let mut n: usize = 0;
+    let last = held as usize - 1;
     let mut place = at;
-    while n + 1 < count {
+    for n in 0..last {
         place = write_entry(out, place, version, true, entry(list, n, in_blocks::ENTRY));
-        n += 1;
     }
-    write_entry(out, place, version, false, entry(list, n, in_blocks::ENTRY))
+    write_entry(
+        out,
+        place,
+        version,
+        false,
+        entry(list, last, in_blocks::ENTRY),
+    )
 }
 
 // The legal blocks of a record of that version.

@@ -35,14 +35,12 @@ fn write_entries(out: &mut [u8], at: BitPlace, list: &[u8], held: u32) -> BitPla
     requires { Room out.old at.0 (references.size (references_of list.now held)) × (references.check (references_of list.now held) ≡ 0) × (length list.now ≡ size_of_references_list) }
     ensures { Writes references (references_of list.now held) out.old out.new at.0 result.0 }
 {
-    let count = held as usize;
-    let mut n: usize = 0;
+    let last = held as usize - 1;
     let mut place = at;
-    while n + 1 < count {
+    for n in 0..last {
         place = write_entry(out, place, true, entry(list, n, in_references::ENTRY));
-        n += 1;
     }
-    write_entry(out, place, false, entry(list, n, in_references::ENTRY))
+    write_entry(out, place, false, entry(list, last, in_references::ENTRY))
 }
 
 // A legal list of references.
@@ -64,15 +62,12 @@ pub fn write_optional_references(out: &mut [u8], at: BitPlace, x: &[u8]) -> BitP
     requires { Room out.old at.0 (optional_references.size (optional_references_in x.now)) × (optional_references.check (optional_references_in x.now) ≡ 0) × (length x.now ≡ size_of_optional_references) }
     ensures { Writes optional_references (optional_references_in x.now) out.old out.new at.0 result.0 }
 {
-    let present = load_flag(
-        &x[in_optional_references::PRESENT..in_optional_references::REFERENCES],
-    );
     let next = write_mark(
         out,
         at,
         &x[in_optional_references::PRESENT..in_optional_references::REFERENCES],
     );
-    if present {
+    if load_flag(&x[in_optional_references::PRESENT..in_optional_references::REFERENCES]) {
         return write_references(
             out,
             next,

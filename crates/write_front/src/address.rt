@@ -35,14 +35,12 @@ fn write_entries(out: &mut [u8], at: BitPlace, list: &[u8], held: u32) -> BitPla
     requires { Room out.old at.0 ((addresses 15).size (addresses_of list.now held)) × ((addresses 15).check (addresses_of list.now held) ≡ 0) × (length list.now ≡ size_of_addresses_list) }
     ensures { Writes (addresses 15) (addresses_of list.now held) out.old out.new at.0 result.0 }
 {
-    let count = held as usize;
-    let mut n: usize = 0;
+    let last = held as usize - 1;
     let mut place = at;
-    while n + 1 < count {
+    for n in 0..last {
         place = write_entry(out, place, true, entry(list, n, in_addresses::ENTRY));
-        n += 1;
     }
-    write_entry(out, place, false, entry(list, n, in_addresses::ENTRY))
+    write_entry(out, place, false, entry(list, last, in_addresses::ENTRY))
 }
 
 // A legal list of addresses.

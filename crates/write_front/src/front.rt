@@ -17,13 +17,12 @@ pub fn write_originator(out: &mut [u8], at: BitPlace, x: &[u8]) -> BitPlace
     requires { Room out.old at.0 (originator.size (optional_address_in x.now)) × (length x.now ≡ size_of_optional_address) }
     ensures { Writes originator (optional_address_in x.now) out.old out.new at.0 result.0 }
 {
-    let present = load_flag(&x[in_optional_address::PRESENT..in_optional_address::ADDRESS]);
     let next = write_mark(
         out,
         at,
         &x[in_optional_address::PRESENT..in_optional_address::ADDRESS],
     );
-    if present {
+    if load_flag(&x[in_optional_address::PRESENT..in_optional_address::ADDRESS]) {
         return write_address(
             out,
             next,
@@ -38,13 +37,12 @@ pub fn write_addressees(out: &mut [u8], at: BitPlace, x: &[u8]) -> BitPlace
     requires { Room out.old at.0 (recipients.size (optional_addresses_in x.now)) × (recipients.check (optional_addresses_in x.now) ≡ 0) × (length x.now ≡ size_of_optional_addresses) }
     ensures { Writes recipients (optional_addresses_in x.now) out.old out.new at.0 result.0 }
 {
-    let present = load_flag(&x[in_optional_addresses::PRESENT..in_optional_addresses::ADDRESSES]);
     let next = write_mark(
         out,
         at,
         &x[in_optional_addresses::PRESENT..in_optional_addresses::ADDRESSES],
     );
-    if present {
+    if load_flag(&x[in_optional_addresses::PRESENT..in_optional_addresses::ADDRESSES]) {
         return write_addresses(
             out,
             next,

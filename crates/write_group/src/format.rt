@@ -36,13 +36,12 @@ pub fn write_optional_identity(out: &mut [u8], at: BitPlace, x: &[u8]) -> BitPla
     requires { Room out.old at.0 (optional_identity.size (optional_identity_in x.now)) × (length x.now ≡ size_of_optional_identity) }
     ensures { Writes optional_identity (optional_identity_in x.now) out.old out.new at.0 result.0 }
 {
-    let present = load_flag(&x[in_optional_identity::PRESENT..in_optional_identity::IDENTITY]);
     let next = write_mark(
         out,
         at,
         &x[in_optional_identity::PRESENT..in_optional_identity::IDENTITY],
     );
-    if present {
+    if load_flag(&x[in_optional_identity::PRESENT..in_optional_identity::IDENTITY]) {
         return write_identity(
             out,
             next,
@@ -57,8 +56,7 @@ fn write_standard_version(out: &mut [u8], at: BitPlace, version: u32, x: &[u8]) 
     requires { Room out.old at.0 ((standard_version version).size (optional_number_in x.now)) × (length x.now ≡ size_of_optional_number) }
     ensures { Writes (standard_version version) (optional_number_in x.now) out.old out.new at.0 result.0 }
 {
-    let lacking = lacks_standard_version(version);
-    if lacking {
+    if lacks_standard_version(version) {
         return at;
     }
     write_optional(out, at, STANDARD_VERSION, x)

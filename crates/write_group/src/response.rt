@@ -58,13 +58,12 @@ pub fn write_optional_response(out: &mut [u8], at: BitPlace, x: &[u8]) -> BitPla
     requires { Room out.old at.0 (optional_response.size (optional_response_in x.now)) × (length x.now ≡ size_of_optional_response) }
     ensures { Writes optional_response (optional_response_in x.now) out.old out.new at.0 result.0 }
 {
-    let present = load_flag(&x[in_optional_response::PRESENT..in_optional_response::RESPONSE]);
     let next = write_mark(
         out,
         at,
         &x[in_optional_response::PRESENT..in_optional_response::RESPONSE],
     );
-    if present {
+    if load_flag(&x[in_optional_response::PRESENT..in_optional_response::RESPONSE]) {
         return write_response(
             out,
             next,

@@ -14,13 +14,12 @@ pub fn write_optional_text(out: &mut [u8], at: BitPlace, most: usize, x: &[u8]) 
     requires { Room out.old at.0 ((optional_text most).size (optional_text_in x.now)) × (most ≤ 64) × (length x.now ≡ size_of_optional_text) }
     ensures { Writes (optional_text most) (optional_text_in x.now) out.old out.new at.0 result.0 }
 {
-    let present = load_flag(&x[in_optional_text::PRESENT..in_optional_text::TEXT]);
     let next = write_mark(
         out,
         at,
         &x[in_optional_text::PRESENT..in_optional_text::TEXT],
     );
-    if present {
+    if load_flag(&x[in_optional_text::PRESENT..in_optional_text::TEXT]) {
         return write_text(
             out,
             next,

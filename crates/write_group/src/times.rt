@@ -17,13 +17,12 @@ pub fn write_optional_stamp(out: &mut [u8], at: BitPlace, x: &[u8]) -> BitPlace
     requires { Room out.old at.0 (optional_stamp.size (optional_stamp_in x.now)) × (length x.now ≡ size_of_optional_stamp) }
     ensures { Writes optional_stamp (optional_stamp_in x.now) out.old out.new at.0 result.0 }
 {
-    let present = load_flag(&x[in_optional_stamp::PRESENT..in_optional_stamp::STAMP]);
     let next = write_mark(
         out,
         at,
         &x[in_optional_stamp::PRESENT..in_optional_stamp::STAMP],
     );
-    if present {
+    if load_flag(&x[in_optional_stamp::PRESENT..in_optional_stamp::STAMP]) {
         return write_stamp(
             out,
             next,
@@ -38,9 +37,8 @@ pub fn write_optional_dtg(out: &mut [u8], at: BitPlace, x: &[u8]) -> BitPlace
     requires { Room out.old at.0 (optional_dtg.size (optional_dtg_in x.now)) × (length x.now ≡ size_of_optional_dtg) }
     ensures { Writes optional_dtg (optional_dtg_in x.now) out.old out.new at.0 result.0 }
 {
-    let present = load_flag(&x[in_optional_dtg::PRESENT..in_optional_dtg::DTG]);
     let next = write_mark(out, at, &x[in_optional_dtg::PRESENT..in_optional_dtg::DTG]);
-    if present {
+    if load_flag(&x[in_optional_dtg::PRESENT..in_optional_dtg::DTG]) {
         return write_dtg(out, next, &x[in_optional_dtg::DTG..in_optional_dtg::END]);
     }
     next
@@ -60,13 +58,12 @@ pub fn write_optional_requests(out: &mut [u8], at: BitPlace, x: &[u8]) -> BitPla
     requires { Room out.old at.0 (optional_requests.size (optional_requests_in x.now)) × (length x.now ≡ size_of_optional_requests) }
     ensures { Writes optional_requests (optional_requests_in x.now) out.old out.new at.0 result.0 }
 {
-    let present = load_flag(&x[in_optional_requests::PRESENT..in_optional_requests::REQUESTS]);
     let next = write_mark(
         out,
         at,
         &x[in_optional_requests::PRESENT..in_optional_requests::REQUESTS],
     );
-    if present {
+    if load_flag(&x[in_optional_requests::PRESENT..in_optional_requests::REQUESTS]) {
         return write_requests(
             out,
             next,

@@ -14,12 +14,12 @@ end_flag-behind-requires c = search rules
 
 pub end_identity-requires : goal.end_identity-requires
 unfolding optional_identity ◌then_by◌ viewed flag optional_identity_in
-end_identity-requires c = let e = present-size no_identity identity (optional_identity_in c.args.x.now).present (optional_identity_in c.args.x.now).identity (sym c.load_flag-present.ensures ∙ c.if-present.true) in search rules
+end_identity-requires c = let e = present-size no_identity identity (optional_identity_in c.args.x.now).present (optional_identity_in c.args.x.now).identity (sym c.load_flag.ensures ∙ c.if-load_flag.true) in search rules
 
-pub returns-then-present : goal.returns-then-present
+pub returns-then-load_flag : goal.returns-then-load_flag
 unfolding optional_identity ◌then_by◌ viewed flag optional_identity_in
-returns-then-present c = let e = present-size no_identity identity (optional_identity_in c.args.x.now).present (optional_identity_in c.args.x.now).identity (sym c.load_flag-present.ensures ∙ c.if-present.true) in search rules
+returns-then-load_flag c = let e = present-size no_identity identity (optional_identity_in c.args.x.now).present (optional_identity_in c.args.x.now).identity (sym c.load_flag.ensures ∙ c.if-load_flag.true) in search rules
 
 pub returns : goal.returns
 unfolding optional_identity ◌then_by◌ viewed flag optional_identity_in
-returns c = let e = absent-size no_identity identity (optional_identity_in c.args.x.now).present (optional_identity_in c.args.x.now).identity (sym c.load_flag-present.ensures ∙ c.if-present.false) in search rules
+returns c = let e = absent-size no_identity identity (optional_identity_in c.args.x.now).present (optional_identity_in c.args.x.now).identity (sym c.load_flag.ensures ∙ c.if-load_flag.false) in search rules

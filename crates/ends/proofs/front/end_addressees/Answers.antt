@@ -16,13 +16,13 @@ end_flag-behind-requires c = search rules
 pub end_addresses-requires : goal.end_addresses-requires
 unfolding recipients ◌then_by◌ viewed flag optional_addresses_in
 end_addresses-requires c =
-    let e = present-size no_addresses (addresses 15) (optional_addresses_in c.args.x.now).present (optional_addresses_in c.args.x.now).addresses (sym c.load_flag-present.ensures ∙ c.if-present.true) in
-    (search rules, addressees-legal (optional_addresses_in c.args.x.now) (sym c.load_flag-present.ensures ∙ c.if-present.true) c.requires.1, search rules)
+    let e = present-size no_addresses (addresses 15) (optional_addresses_in c.args.x.now).present (optional_addresses_in c.args.x.now).addresses (sym c.load_flag.ensures ∙ c.if-load_flag.true) in
+    (search rules, addressees-legal (optional_addresses_in c.args.x.now) (sym c.load_flag.ensures ∙ c.if-load_flag.true) c.requires.1, search rules)
 
-pub returns-then-present : goal.returns-then-present
+pub returns-then-load_flag : goal.returns-then-load_flag
 unfolding recipients ◌then_by◌ viewed flag optional_addresses_in
-returns-then-present c = let e = present-size no_addresses (addresses 15) (optional_addresses_in c.args.x.now).present (optional_addresses_in c.args.x.now).addresses (sym c.load_flag-present.ensures ∙ c.if-present.true) in search rules
+returns-then-load_flag c = let e = present-size no_addresses (addresses 15) (optional_addresses_in c.args.x.now).present (optional_addresses_in c.args.x.now).addresses (sym c.load_flag.ensures ∙ c.if-load_flag.true) in search rules
 
 pub returns : goal.returns
 unfolding recipients ◌then_by◌ viewed flag optional_addresses_in
-returns c = let e = absent-size no_addresses (addresses 15) (optional_addresses_in c.args.x.now).present (optional_addresses_in c.args.x.now).addresses (sym c.load_flag-present.ensures ∙ c.if-present.false) in search rules
+returns c = let e = absent-size no_addresses (addresses 15) (optional_addresses_in c.args.x.now).present (optional_addresses_in c.args.x.now).addresses (sym c.load_flag.ensures ∙ c.if-load_flag.false) in search rules

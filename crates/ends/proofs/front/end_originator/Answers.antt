@@ -14,12 +14,12 @@ end_flag-behind-requires c = search rules
 
 pub end_address-requires : goal.end_address-requires
 unfolding originator ◌then_by◌ viewed flag optional_address_in
-end_address-requires c = let e = present-size no_address address (optional_address_in c.args.x.now).present (optional_address_in c.args.x.now).address (sym c.load_flag-present.ensures ∙ c.if-present.true) in search rules
+end_address-requires c = let e = present-size no_address address (optional_address_in c.args.x.now).present (optional_address_in c.args.x.now).address (sym c.load_flag.ensures ∙ c.if-load_flag.true) in search rules
 
-pub returns-then-present : goal.returns-then-present
+pub returns-then-load_flag : goal.returns-then-load_flag
 unfolding originator ◌then_by◌ viewed flag optional_address_in
-returns-then-present c = let e = present-size no_address address (optional_address_in c.args.x.now).present (optional_address_in c.args.x.now).address (sym c.load_flag-present.ensures ∙ c.if-present.true) in search rules
+returns-then-load_flag c = let e = present-size no_address address (optional_address_in c.args.x.now).present (optional_address_in c.args.x.now).address (sym c.load_flag.ensures ∙ c.if-load_flag.true) in search rules
 
 pub returns : goal.returns
 unfolding originator ◌then_by◌ viewed flag optional_address_in
-returns c = let e = absent-size no_address address (optional_address_in c.args.x.now).present (optional_address_in c.args.x.now).address (sym c.load_flag-present.ensures ∙ c.if-present.false) in search rules
+returns c = let e = absent-size no_address address (optional_address_in c.args.x.now).present (optional_address_in c.args.x.now).address (sym c.load_flag.ensures ∙ c.if-load_flag.false) in search rules

@@ -1,5 +1,4 @@
 -- `ends::references::end_entries` meets its contract. The invariant: the entries so far end here. Assumes nothing.
-use borrow.Author.Rules.{rules}
 use lib.Dec.{lit≤}
 use native.Mathlib.Omega.{arith}
 use Rattle.codec.specs.Codec.{viewed}
@@ -28,10 +27,6 @@ end_reference-place-requires c =
     let k = count_most no_reference reference 4 3 _ _ c.requires.1 in
     let m = many-entry reference_in 112 4 c.loop-i.i c.args.list.now _ no_reference c.entry.ensures.0 (omega arith) in
     (rw m (ending-entry no_reference reference 4 3 _ _ c.requires.1 (lit≤ tt) _ _ _ c.loop-i.invariant no_reference (omega arith) _ _ c.end_flag-behind.ensures c.requires.0), c.entry.ensures.1)
-
-pub overflow_add-i : goal.overflow_add-i
-unfolding references viewed
-overflow_add-i c = let k = count_most no_reference reference 4 3 _ _ c.requires.1 in search rules
 
 pub loop-i-preserved : goal.loop-i-preserved
 unfolding references viewed

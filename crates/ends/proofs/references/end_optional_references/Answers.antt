@@ -16,13 +16,13 @@ end_flag-behind-requires c = search rules
 pub end_references-requires : goal.end_references-requires
 unfolding optional_references ◌then_by◌ viewed flag optional_references_in
 end_references-requires c =
-    let e = present-size no_references references (optional_references_in c.args.x.now).present (optional_references_in c.args.x.now).references (sym c.load_flag-present.ensures ∙ c.if-present.true) in
-    (search rules, references-legal (optional_references_in c.args.x.now) (sym c.load_flag-present.ensures ∙ c.if-present.true) c.requires.1, search rules)
+    let e = present-size no_references references (optional_references_in c.args.x.now).present (optional_references_in c.args.x.now).references (sym c.load_flag.ensures ∙ c.if-load_flag.true) in
+    (search rules, references-legal (optional_references_in c.args.x.now) (sym c.load_flag.ensures ∙ c.if-load_flag.true) c.requires.1, search rules)
 
-pub returns-then-present : goal.returns-then-present
+pub returns-then-load_flag : goal.returns-then-load_flag
 unfolding optional_references ◌then_by◌ viewed flag optional_references_in
-returns-then-present c = let e = present-size no_references references (optional_references_in c.args.x.now).present (optional_references_in c.args.x.now).references (sym c.load_flag-present.ensures ∙ c.if-present.true) in search rules
+returns-then-load_flag c = let e = present-size no_references references (optional_references_in c.args.x.now).present (optional_references_in c.args.x.now).references (sym c.load_flag.ensures ∙ c.if-load_flag.true) in search rules
 
 pub returns : goal.returns
 unfolding optional_references ◌then_by◌ viewed flag optional_references_in
-returns c = let e = absent-size no_references references (optional_references_in c.args.x.now).present (optional_references_in c.args.x.now).references (sym c.load_flag-present.ensures ∙ c.if-present.false) in search rules
+returns c = let e = absent-size no_references references (optional_references_in c.args.x.now).present (optional_references_in c.args.x.now).references (sym c.load_flag.ensures ∙ c.if-load_flag.false) in search rules

@@ -14,12 +14,12 @@ end_flag-behind-requires c = search rules
 
 pub end_response-requires : goal.end_response-requires
 unfolding optional_response ◌then_by◌ viewed flag optional_response_in
-end_response-requires c = let e = present-size no_response response (optional_response_in c.args.x.now).present (optional_response_in c.args.x.now).response (sym c.load_flag-present.ensures ∙ c.if-present.true) in search rules
+end_response-requires c = let e = present-size no_response response (optional_response_in c.args.x.now).present (optional_response_in c.args.x.now).response (sym c.load_flag.ensures ∙ c.if-load_flag.true) in search rules
 
-pub returns-then-present : goal.returns-then-present
+pub returns-then-load_flag : goal.returns-then-load_flag
 unfolding optional_response ◌then_by◌ viewed flag optional_response_in
-returns-then-present c = let e = present-size no_response response (optional_response_in c.args.x.now).present (optional_response_in c.args.x.now).response (sym c.load_flag-present.ensures ∙ c.if-present.true) in search rules
+returns-then-load_flag c = let e = present-size no_response response (optional_response_in c.args.x.now).present (optional_response_in c.args.x.now).response (sym c.load_flag.ensures ∙ c.if-load_flag.true) in search rules
 
 pub returns : goal.returns
 unfolding optional_response ◌then_by◌ viewed flag optional_response_in
-returns c = let e = absent-size no_response response (optional_response_in c.args.x.now).present (optional_response_in c.args.x.now).response (sym c.load_flag-present.ensures ∙ c.if-present.false) in search rules
+returns c = let e = absent-size no_response response (optional_response_in c.args.x.now).present (optional_response_in c.args.x.now).response (sym c.load_flag.ensures ∙ c.if-load_flag.false) in search rules

@@ -14,12 +14,12 @@ end_flag-behind-requires c = search rules
 
 pub end_text-requires : goal.end_text-requires
 unfolding optional_text ◌then_by◌ viewed flag optional_text_in
-end_text-requires c = let e = present-size no_text (text c.args.most) (optional_text_in c.args.x.now).present (optional_text_in c.args.x.now).text (sym c.load_flag-present.ensures ∙ c.if-present.true) in search rules
+end_text-requires c = let e = present-size no_text (text c.args.most) (optional_text_in c.args.x.now).present (optional_text_in c.args.x.now).text (sym c.load_flag.ensures ∙ c.if-load_flag.true) in search rules
 
-pub returns-then-present : goal.returns-then-present
+pub returns-then-load_flag : goal.returns-then-load_flag
 unfolding optional_text ◌then_by◌ viewed flag optional_text_in
-returns-then-present c = let e = present-size no_text (text c.args.most) (optional_text_in c.args.x.now).present (optional_text_in c.args.x.now).text (sym c.load_flag-present.ensures ∙ c.if-present.true) in search rules
+returns-then-load_flag c = let e = present-size no_text (text c.args.most) (optional_text_in c.args.x.now).present (optional_text_in c.args.x.now).text (sym c.load_flag.ensures ∙ c.if-load_flag.true) in search rules
 
 pub returns : goal.returns
 unfolding optional_text ◌then_by◌ viewed flag optional_text_in
-returns c = let e = absent-size no_text (text c.args.most) (optional_text_in c.args.x.now).present (optional_text_in c.args.x.now).text (sym c.load_flag-present.ensures ∙ c.if-present.false) in search rules
+returns c = let e = absent-size no_text (text c.args.most) (optional_text_in c.args.x.now).present (optional_text_in c.args.x.now).text (sym c.load_flag.ensures ∙ c.if-load_flag.false) in search rules

@@ -14,12 +14,12 @@ end_flag-behind-requires c = search rules
 
 pub end_dtg-requires : goal.end_dtg-requires
 unfolding optional_dtg ◌then_by◌ viewed flag dtg date day_in time number optional_dtg_in
-end_dtg-requires c = let e = present-size no_dtg dtg (optional_dtg_in c.args.x.now).present (optional_dtg_in c.args.x.now).dtg (sym c.load_flag-present.ensures ∙ c.if-present.true) in search rules
+end_dtg-requires c = let e = present-size no_dtg dtg (optional_dtg_in c.args.x.now).present (optional_dtg_in c.args.x.now).dtg (sym c.load_flag.ensures ∙ c.if-load_flag.true) in search rules
 
-pub returns-then-present : goal.returns-then-present
+pub returns-then-load_flag : goal.returns-then-load_flag
 unfolding optional_dtg ◌then_by◌ viewed flag dtg date day_in time number optional_dtg_in
-returns-then-present c = let e = present-size no_dtg dtg (optional_dtg_in c.args.x.now).present (optional_dtg_in c.args.x.now).dtg (sym c.load_flag-present.ensures ∙ c.if-present.true) in search rules
+returns-then-load_flag c = let e = present-size no_dtg dtg (optional_dtg_in c.args.x.now).present (optional_dtg_in c.args.x.now).dtg (sym c.load_flag.ensures ∙ c.if-load_flag.true) in search rules
 
 pub returns : goal.returns
 unfolding optional_dtg ◌then_by◌ viewed flag dtg date day_in time number optional_dtg_in
-returns c = let e = absent-size no_dtg dtg (optional_dtg_in c.args.x.now).present (optional_dtg_in c.args.x.now).dtg (sym c.load_flag-present.ensures ∙ c.if-present.false) in search rules
+returns c = let e = absent-size no_dtg dtg (optional_dtg_in c.args.x.now).present (optional_dtg_in c.args.x.now).dtg (sym c.load_flag.ensures ∙ c.if-load_flag.false) in search rules

@@ -14,12 +14,12 @@ end_flag-behind-requires c = search rules
 
 pub end_requests-requires : goal.end_requests-requires
 unfolding optional_requests ◌then_by◌ viewed flag requests optional_requests_in
-end_requests-requires c = let e = present-size no_requests requests (optional_requests_in c.args.x.now).present (optional_requests_in c.args.x.now).requests (sym c.load_flag-present.ensures ∙ c.if-present.true) in search rules
+end_requests-requires c = let e = present-size no_requests requests (optional_requests_in c.args.x.now).present (optional_requests_in c.args.x.now).requests (sym c.load_flag.ensures ∙ c.if-load_flag.true) in search rules
 
-pub returns-then-present : goal.returns-then-present
+pub returns-then-load_flag : goal.returns-then-load_flag
 unfolding optional_requests ◌then_by◌ viewed flag requests optional_requests_in
-returns-then-present c = let e = present-size no_requests requests (optional_requests_in c.args.x.now).present (optional_requests_in c.args.x.now).requests (sym c.load_flag-present.ensures ∙ c.if-present.true) in search rules
+returns-then-load_flag c = let e = present-size no_requests requests (optional_requests_in c.args.x.now).present (optional_requests_in c.args.x.now).requests (sym c.load_flag.ensures ∙ c.if-load_flag.true) in search rules
 
 pub returns : goal.returns
 unfolding optional_requests ◌then_by◌ viewed flag requests optional_requests_in
-returns c = let e = absent-size no_requests requests (optional_requests_in c.args.x.now).present (optional_requests_in c.args.x.now).requests (sym c.load_flag-present.ensures ∙ c.if-present.false) in search rules
+returns c = let e = absent-size no_requests requests (optional_requests_in c.args.x.now).present (optional_requests_in c.args.x.now).requests (sym c.load_flag.ensures ∙ c.if-load_flag.false) in search rules

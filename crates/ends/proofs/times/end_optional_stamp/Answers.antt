@@ -14,12 +14,12 @@ end_flag-behind-requires c = search rules
 
 pub end_stamp-requires : goal.end_stamp-requires
 unfolding optional_stamp ◌then_by◌ viewed flag optional_stamp_in
-end_stamp-requires c = let e = present-size no_stamp stamp (optional_stamp_in c.args.x.now).present (optional_stamp_in c.args.x.now).stamp (sym c.load_flag-present.ensures ∙ c.if-present.true) in search rules
+end_stamp-requires c = let e = present-size no_stamp stamp (optional_stamp_in c.args.x.now).present (optional_stamp_in c.args.x.now).stamp (sym c.load_flag.ensures ∙ c.if-load_flag.true) in search rules
 
-pub returns-then-present : goal.returns-then-present
+pub returns-then-load_flag : goal.returns-then-load_flag
 unfolding optional_stamp ◌then_by◌ viewed flag optional_stamp_in
-returns-then-present c = let e = present-size no_stamp stamp (optional_stamp_in c.args.x.now).present (optional_stamp_in c.args.x.now).stamp (sym c.load_flag-present.ensures ∙ c.if-present.true) in search rules
+returns-then-load_flag c = let e = present-size no_stamp stamp (optional_stamp_in c.args.x.now).present (optional_stamp_in c.args.x.now).stamp (sym c.load_flag.ensures ∙ c.if-load_flag.true) in search rules
 
 pub returns : goal.returns
 unfolding optional_stamp ◌then_by◌ viewed flag optional_stamp_in
-returns c = let e = absent-size no_stamp stamp (optional_stamp_in c.args.x.now).present (optional_stamp_in c.args.x.now).stamp (sym c.load_flag-present.ensures ∙ c.if-present.false) in search rules
+returns c = let e = absent-size no_stamp stamp (optional_stamp_in c.args.x.now).present (optional_stamp_in c.args.x.now).stamp (sym c.load_flag.ensures ∙ c.if-load_flag.false) in search rules

@@ -1,13 +1,13 @@
 -- `write_block::block::write_entries` meets its contract. The invariant: what is written behind the entries so far completes the list. Assumes nothing.
 use borrow.Author.Rules.{rules}
-use Prim.Native.Nat.{ℕ}
+use Prim.Native.Nat.{ℕ, ◌-◌}
 use mathlib.Core.Path.{◌≡◌}
 use lib.Dec.{lit≤}
 use native.Mathlib.Omega.{arith}
 use Rattle.codec.specs.Codec.{viewed}
 use Rattle.codec.specs.Lists.{listed, cells}
 use Rattle.codec.proofs.Compose.{shape-writes}
-use Rattle.codec.proofs.ListEnds.{count_most, entry-legal}
+use Rattle.codec.proofs.ListEnds.{count-some, count_most, entry-legal}
 use Rattle.codec.proofs.ListWrites.{entries_none, entry-there, entry-room, last-room, entries-more, entries-last}
 use Rattle.header.specs.Zero.{no_block}
 use Rattle.header.specs.Table.{block, blocks}
@@ -20,13 +20,13 @@ legal-list : (version : ℕ) (x : Blocks) → (blocks version).check x ≡ 0 →
 unfolding blocks viewed
 legal-list version x h = h
 
+pub overflow_sub-last : goal.overflow_sub-last
+unfolding blocks viewed
+overflow_sub-last c = let k = count-some no_block (block _) 16 15 _ _ c.requires.1 in omega (arith, k)
+
 pub loop-n-init : goal.loop-n-init
 unfolding blocks viewed
 loop-n-init c = entries_none no_block (block _) 16 15 _ _ c.requires.1 (lit≤ tt) _ _
-
-pub overflow_add-n : goal.overflow_add-n
-unfolding blocks viewed
-overflow_add-n c = let k = entry-there no_block (block _) 16 15 _ _ c.requires.1 (lit≤ tt) _ _ _ _ _ c.loop-n.invariant in let m = count_most no_block (block _) 16 15 _ _ c.requires.1 in search rules
 
 pub entry-requires : goal.entry-requires
 unfolding blocks viewed
@@ -39,10 +39,6 @@ write_entry-place-requires c =
     let g = c.loop-n.invariant.long in
     let e = many-entry block_in 852 16 c.loop-n.n c.args.list.now _ no_block c.entry.ensures.0 (omega arith) in
     rw e ((entry-room no_block (block _) 16 15 _ _ c.requires.1 (lit≤ tt) _ _ _ _ _ c.loop-n.invariant no_block (omega arith) _ (omega (arith, c.requires.0.0)), entry-room no_block (block _) 16 15 _ _ c.requires.1 (lit≤ tt) _ _ _ _ _ c.loop-n.invariant no_block (omega arith) _ c.requires.0.1), entry-legal no_block (block _) 16 15 _ _ c.requires.1 (lit≤ tt) _ no_block k, c.entry.ensures.1)
-
-pub overflow_add-n-in-loop-n : goal.overflow_add-n-in-loop-n
-unfolding blocks viewed
-overflow_add-n-in-loop-n c = let k = entry-there no_block (block _) 16 15 _ _ c.requires.1 (lit≤ tt) _ _ _ _ _ c.loop-n.invariant in let m = count_most no_block (block _) 16 15 _ _ c.requires.1 in search rules
 
 pub loop-n-preserved : goal.loop-n-preserved
 unfolding blocks viewed
@@ -61,7 +57,8 @@ unfolding blocks viewed
 write_entry-requires c =
     let k = entry-there no_block (block _) 16 15 _ _ c.requires.1 (lit≤ tt) _ _ _ _ _ c.loop-n.invariant in let m = count_most no_block (block _) 16 15 _ _ c.requires.1 in
     let g = c.loop-n.invariant.long in
-    let e = many-entry block_in 852 16 c.loop-n.n c.args.list.now _ no_block c.entry-2.ensures.0 (omega arith) in
+    let z : c.args.held - 1 ≡ c.loop-n.n = omega (arith, k) in
+    let e = many-entry block_in 852 16 c.loop-n.n c.args.list.now _ no_block (rw z at c.entry-2.ensures.0) (omega arith) in
     rw e ((last-room no_block (block _) 16 15 _ _ c.requires.1 (lit≤ tt) _ _ _ _ _ c.loop-n.invariant no_block (omega arith) _ (omega (arith, c.requires.0.0)), last-room no_block (block _) 16 15 _ _ c.requires.1 (lit≤ tt) _ _ _ _ _ c.loop-n.invariant no_block (omega arith) _ c.requires.0.1), entry-legal no_block (block _) 16 15 _ _ c.requires.1 (lit≤ tt) _ no_block k, c.entry-2.ensures.1)
 
 pub returns : goal.returns
@@ -70,6 +67,7 @@ returns c =
     let l = legal-list _ (blocks_of c.args.list.now c.args.held) c.requires.1 in
     let k = entry-there no_block (block _) 16 15 _ _ l (lit≤ tt) _ _ _ _ _ c.loop-n.invariant in
     let m = count_most no_block (block _) 16 15 _ _ l in
-    let e = many-entry block_in 852 16 c.loop-n.n c.args.list.now _ no_block c.entry-2.ensures.0 (omega arith) in
+    let z : c.args.held - 1 ≡ c.loop-n.n = omega (arith, k) in
+    let e = many-entry block_in 852 16 c.loop-n.n c.args.list.now _ no_block (rw z at c.entry-2.ensures.0) (omega arith) in
     let w = rw e at c.write_entry.ensures in
     shape-writes _ _ _ _ _ _ _ _ _ _ _ (entries-last no_block (block _) 16 15 _ _ l (lit≤ tt) _ _ _ _ _ c.loop-n.invariant no_block _ _ (omega arith) w)

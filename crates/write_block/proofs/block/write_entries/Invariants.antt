@@ -1,5 +1,4 @@
 -- `write_block::block::write_entries` meets its contract. The invariant: what is written behind the entries so far completes the list. Assumes nothing.
-use Prim.Native.Nat.{◌-◌}
 use lib.ListN.{take}
 use Rattle.codec.proofs.ListLoops.{Writing}
 use Rattle.header.specs.Zero.{no_block}
@@ -8,7 +7,4 @@ use Rattle.record_octets.specs.Record.{blocks_of}
 use Rattle.write_block.proofs.block.write_entries.Given as goal
 
 abbrev pub invariant-loop-n : goal.invariant-loop-n
-invariant-loop-n l = Writing no_block (block l.version) 15 (take l.count (blocks_of l.list l.held).list) l.initial.out l.initial.place.0 l.out l.n l.place.0
-
-abbrev pub decreases-loop-n : goal.decreases-loop-n
-decreases-loop-n l = l.count - l.n
+invariant-loop-n l = Writing no_block (block l.version) 15 (take l.held (blocks_of l.list l.held).list) l.initial.out l.initial.place.0 l.out l.n l.place.0

@@ -1,5 +1,4 @@
 -- `write_block::references::write_entries` meets its contract. The invariant: what is written behind the entries so far completes the list. Assumes nothing.
-use Prim.Native.Nat.{◌-◌}
 use lib.ListN.{take}
 use Rattle.codec.proofs.ListLoops.{Writing}
 use Rattle.header.specs.Zero.{no_reference}
@@ -8,7 +7,4 @@ use Rattle.record_octets.specs.Record.{references_of}
 use Rattle.write_block.proofs.references.write_entries.Given as goal
 
 abbrev pub invariant-loop-n : goal.invariant-loop-n
-invariant-loop-n l = Writing no_reference reference 3 (take l.count (references_of l.list l.held).list) l.initial.out l.initial.place.0 l.out l.n l.place.0
-
-abbrev pub decreases-loop-n : goal.decreases-loop-n
-decreases-loop-n l = l.count - l.n
+invariant-loop-n l = Writing no_reference reference 3 (take l.held (references_of l.list l.held).list) l.initial.out l.initial.place.0 l.out l.n l.place.0

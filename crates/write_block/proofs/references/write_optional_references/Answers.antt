@@ -16,13 +16,13 @@ write_mark-next-requires c = search rules
 pub write_references-requires : goal.write_references-requires
 unfolding optional_references ◌then_by◌ viewed flag optional_references_in
 write_references-requires c =
-    let e = present-size no_references references (optional_references_in c.args.x.now).present (optional_references_in c.args.x.now).references (sym c.load_flag-present.ensures ∙ c.if-present.true) in
-    (search rules, references-legal (optional_references_in c.args.x.now) (sym c.load_flag-present.ensures ∙ c.if-present.true) c.requires.1, search rules)
+    let e = present-size no_references references (optional_references_in c.args.x.now).present (optional_references_in c.args.x.now).references (sym c.load_flag.ensures ∙ c.if-load_flag.true) in
+    (search rules, references-legal (optional_references_in c.args.x.now) (sym c.load_flag.ensures ∙ c.if-load_flag.true) c.requires.1, search rules)
 
-pub returns-then-present : goal.returns-then-present
+pub returns-then-load_flag : goal.returns-then-load_flag
 unfolding optional_references optional_references_in
-returns-then-present c = let e = sym c.load_flag-present.ensures ∙ c.if-present.true in search writing depth 12
+returns-then-load_flag c = let e = sym c.load_flag.ensures ∙ c.if-load_flag.true in search writing depth 12
 
 pub returns : goal.returns
 unfolding optional_references optional_references_in
-returns c = let e = sym c.load_flag-present.ensures ∙ c.if-present.false in search writing depth 12
+returns c = let e = sym c.load_flag.ensures ∙ c.if-load_flag.false in search writing depth 12

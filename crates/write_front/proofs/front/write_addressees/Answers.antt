@@ -16,13 +16,13 @@ write_mark-next-requires c = search rules
 pub write_addresses-requires : goal.write_addresses-requires
 unfolding recipients ◌then_by◌ viewed flag optional_addresses_in
 write_addresses-requires c =
-    let e = present-size no_addresses (addresses 15) (optional_addresses_in c.args.x.now).present (optional_addresses_in c.args.x.now).addresses (sym c.load_flag-present.ensures ∙ c.if-present.true) in
-    (search rules, addressees-legal (optional_addresses_in c.args.x.now) (sym c.load_flag-present.ensures ∙ c.if-present.true) c.requires.1, search rules)
+    let e = present-size no_addresses (addresses 15) (optional_addresses_in c.args.x.now).present (optional_addresses_in c.args.x.now).addresses (sym c.load_flag.ensures ∙ c.if-load_flag.true) in
+    (search rules, addressees-legal (optional_addresses_in c.args.x.now) (sym c.load_flag.ensures ∙ c.if-load_flag.true) c.requires.1, search rules)
 
-pub returns-then-present : goal.returns-then-present
+pub returns-then-load_flag : goal.returns-then-load_flag
 unfolding recipients optional_addresses_in
-returns-then-present c = let e = sym c.load_flag-present.ensures ∙ c.if-present.true in search writing depth 12
+returns-then-load_flag c = let e = sym c.load_flag.ensures ∙ c.if-load_flag.true in search writing depth 12
 
 pub returns : goal.returns
 unfolding recipients optional_addresses_in
-returns c = let e = sym c.load_flag-present.ensures ∙ c.if-present.false in search writing depth 12
+returns c = let e = sym c.load_flag.ensures ∙ c.if-load_flag.false in search writing depth 12

@@ -15,13 +15,13 @@ write_mark-next-requires c = search rules
 pub write_identity-requires : goal.write_identity-requires
 unfolding optional_identity ◌then_by◌ viewed flag optional_identity_in
 write_identity-requires c =
-    let e = present-size no_identity identity (optional_identity_in c.args.x.now).present (optional_identity_in c.args.x.now).identity (sym c.load_flag-present.ensures ∙ c.if-present.true) in
+    let e = present-size no_identity identity (optional_identity_in c.args.x.now).present (optional_identity_in c.args.x.now).identity (sym c.load_flag.ensures ∙ c.if-load_flag.true) in
     search rules
 
-pub returns-then-present : goal.returns-then-present
+pub returns-then-load_flag : goal.returns-then-load_flag
 unfolding optional_identity optional_identity_in
-returns-then-present c = let e = sym c.load_flag-present.ensures ∙ c.if-present.true in search writing depth 12
+returns-then-load_flag c = let e = sym c.load_flag.ensures ∙ c.if-load_flag.true in search writing depth 12
 
 pub returns : goal.returns
 unfolding optional_identity optional_identity_in
-returns c = let e = sym c.load_flag-present.ensures ∙ c.if-present.false in search writing depth 12
+returns c = let e = sym c.load_flag.ensures ∙ c.if-load_flag.false in search writing depth 12

@@ -15,13 +15,13 @@ write_mark-next-requires c = search rules
 pub write_response-requires : goal.write_response-requires
 unfolding optional_response ◌then_by◌ viewed flag optional_response_in
 write_response-requires c =
-    let e = present-size no_response response (optional_response_in c.args.x.now).present (optional_response_in c.args.x.now).response (sym c.load_flag-present.ensures ∙ c.if-present.true) in
+    let e = present-size no_response response (optional_response_in c.args.x.now).present (optional_response_in c.args.x.now).response (sym c.load_flag.ensures ∙ c.if-load_flag.true) in
     search rules
 
-pub returns-then-present : goal.returns-then-present
+pub returns-then-load_flag : goal.returns-then-load_flag
 unfolding optional_response optional_response_in
-returns-then-present c = let e = sym c.load_flag-present.ensures ∙ c.if-present.true in search writing depth 12
+returns-then-load_flag c = let e = sym c.load_flag.ensures ∙ c.if-load_flag.true in search writing depth 12
 
 pub returns : goal.returns
 unfolding optional_response optional_response_in
-returns c = let e = sym c.load_flag-present.ensures ∙ c.if-present.false in search writing depth 12
+returns c = let e = sym c.load_flag.ensures ∙ c.if-load_flag.false in search writing depth 12

@@ -15,13 +15,13 @@ write_mark-next-requires c = search rules
 pub write_dtg-requires : goal.write_dtg-requires
 unfolding optional_dtg ◌then_by◌ viewed flag optional_dtg_in
 write_dtg-requires c =
-    let e = present-size no_dtg dtg (optional_dtg_in c.args.x.now).present (optional_dtg_in c.args.x.now).dtg (sym c.load_flag-present.ensures ∙ c.if-present.true) in
+    let e = present-size no_dtg dtg (optional_dtg_in c.args.x.now).present (optional_dtg_in c.args.x.now).dtg (sym c.load_flag.ensures ∙ c.if-load_flag.true) in
     search rules
 
-pub returns-then-present : goal.returns-then-present
+pub returns-then-load_flag : goal.returns-then-load_flag
 unfolding optional_dtg optional_dtg_in
-returns-then-present c = let e = sym c.load_flag-present.ensures ∙ c.if-present.true in search writing depth 12
+returns-then-load_flag c = let e = sym c.load_flag.ensures ∙ c.if-load_flag.true in search writing depth 12
 
 pub returns : goal.returns
 unfolding optional_dtg optional_dtg_in
-returns c = let e = sym c.load_flag-present.ensures ∙ c.if-present.false in search writing depth 12
+returns c = let e = sym c.load_flag.ensures ∙ c.if-load_flag.false in search writing depth 12

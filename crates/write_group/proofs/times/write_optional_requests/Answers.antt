@@ -15,13 +15,13 @@ write_mark-next-requires c = search rules
 pub write_requests-requires : goal.write_requests-requires
 unfolding optional_requests ◌then_by◌ viewed flag optional_requests_in
 write_requests-requires c =
-    let e = present-size no_requests requests (optional_requests_in c.args.x.now).present (optional_requests_in c.args.x.now).requests (sym c.load_flag-present.ensures ∙ c.if-present.true) in
+    let e = present-size no_requests requests (optional_requests_in c.args.x.now).present (optional_requests_in c.args.x.now).requests (sym c.load_flag.ensures ∙ c.if-load_flag.true) in
     search rules
 
-pub returns-then-present : goal.returns-then-present
+pub returns-then-load_flag : goal.returns-then-load_flag
 unfolding optional_requests optional_requests_in
-returns-then-present c = let e = sym c.load_flag-present.ensures ∙ c.if-present.true in search writing depth 12
+returns-then-load_flag c = let e = sym c.load_flag.ensures ∙ c.if-load_flag.true in search writing depth 12
 
 pub returns : goal.returns
 unfolding optional_requests optional_requests_in
-returns c = let e = sym c.load_flag-present.ensures ∙ c.if-present.false in search writing depth 12
+returns c = let e = sym c.load_flag.ensures ∙ c.if-load_flag.false in search writing depth 12
