@@ -3,37 +3,16 @@
 ghost use Rattle.std.specs.Prelude.{◌≡◌, length};
 ghost use Rattle.record_octets.specs.Record.{size_of_block, size_of_codes, size_of_compliance, size_of_format, size_of_handling, size_of_identity, size_of_optional_identity, size_of_optional_requests, size_of_optional_response, size_of_optional_stamp, size_of_requests, size_of_response, size_of_times};
 
-use crate::put::{flag, number};
-use crate::words::*;
+use crate::put::{flag, number, stamp};
+use crate::words::Line;
+use crate::words::Part::*;
 use cells::store_word;
-use header::{Date, Dtg, Stamp, Time};
 use optional::OptionalNumber;
 use record_octets::{
     in_block, in_codes, in_compliance, in_format, in_handling, in_identity, in_optional_identity,
     in_optional_requests, in_optional_response, in_optional_stamp, in_requests, in_response,
     in_times,
 };
-
-pub fn stamp(n: Numbers) -> Stamp {
-    Stamp {
-        dtg: Dtg {
-            date: Date {
-                year: n[YEAR],
-                month: n[OF_MONTH],
-                day: n[DAY],
-            },
-            time: Time {
-                hour: n[HOUR],
-                minute: n[MINUTE],
-                second: n[SECOND],
-            },
-        },
-        extension: OptionalNumber {
-            present: n[EXTENSION] != ABSENT,
-            value: n[EXTENSION],
-        },
-    }
-}
 
 // The FAD, message number 5 and no subtype.
 fn identity(x: &mut [u8], fad: u32)
@@ -45,29 +24,31 @@ fn identity(x: &mut [u8], fad: u32)
 }
 
 // G4.
-fn optional_identity(x: &mut [u8], fad: u32)
+fn optional_identity(x: &mut [u8], line: &Line)
     requires { length x.old ≡ size_of_optional_identity }
 {
     flag(
         &mut x[in_optional_identity::PRESENT..in_optional_identity::IDENTITY],
-        fad != ABSENT,
+        line.has(Identified),
     );
     identity(
         &mut x[in_optional_identity::IDENTITY..in_optional_identity::END],
-        fad,
+        line.cell(Identified),
     );
 }
 
-fn format(x: &mut [u8], n: Numbers)
+fn format(x: &mut [u8], line: &Line)
     requires { length x.old ≡ size_of_format }
 {
-    let standard = OptionalNumber {
-        present: n[WITH_STANDARD] != ABSENT,
-        value: n[WITH_STANDARD],
-    };
-    store_word(&mut x[in_format::UMF..in_format::VERSION], n[IN_FORMAT]);
-    number(&mut x[in_format::VERSION..in_format::IDENTITY], standard);
-    optional_identity(&mut x[in_format::IDENTITY..in_format::FILE], n[IDENTIFIED]);
+    store_word(
+        &mut x[in_format::UMF..in_format::VERSION],
+        line.cell(InFormat),
+    );
+    number(
+        &mut x[in_format::VERSION..in_format::IDENTITY],
+        line.optional(WithStandard),
+    );
+    optional_identity(&mut x[in_format::IDENTITY..in_format::FILE], line);
     flag(&mut x[in_format::FILE..in_format::END], false);
 }
 
@@ -81,33 +62,33 @@ fn codes(x: &mut [u8])
 }
 
 // One of several blocks has a message size: 1, or 0 in a receipt.
-fn size(n: Numbers) -> OptionalNumber {
+fn size(line: &Line) -> OptionalNumber {
     OptionalNumber {
-        present: n[BLOCKS] != 1,
-        value: if n[CODE] == ABSENT { 1 } else { 0 },
+        present: line.cell(Blocks) != 1,
+        value: if line.has(Code) { 0 } else { 1 },
     }
 }
 
-fn handling(x: &mut [u8], n: Numbers)
+fn handling(x: &mut [u8], line: &Line)
     requires { length x.old ≡ size_of_handling }
 {
-    let octets = size(n);
-    number(&mut x[in_handling::SIZE..in_handling::CODES], octets);
+    number(&mut x[in_handling::SIZE..in_handling::CODES], size(line));
     codes(&mut x[in_handling::CODES..in_handling::MARKING]);
     flag(&mut x[in_handling::MARKING..in_handling::END], false);
 }
 
 // A block that is no receipt has G5.
-fn origin(x: &mut [u8], n: Numbers)
+fn origin(x: &mut [u8], line: &Line)
     requires { length x.old ≡ size_of_optional_stamp }
 {
-    let present = n[CODE] == ABSENT;
     flag(
         &mut x[in_optional_stamp::PRESENT..in_optional_stamp::STAMP],
-        present,
+        !line.has(Code),
     );
-    let s = stamp(n);
-    crate::put::stamp(&mut x[in_optional_stamp::STAMP..in_optional_stamp::END], s);
+    stamp(
+        &mut x[in_optional_stamp::STAMP..in_optional_stamp::END],
+        line.stamp(),
+    );
 }
 
 // The requests are the three bits of a number, the machine's the lowest.
@@ -129,25 +110,25 @@ fn requests(x: &mut [u8], bits: u32)
 }
 
 // G7.
-fn optional_requests(x: &mut [u8], bits: u32)
+fn optional_requests(x: &mut [u8], line: &Line)
     requires { length x.old ≡ size_of_optional_requests }
 {
     flag(
         &mut x[in_optional_requests::PRESENT..in_optional_requests::REQUESTS],
-        bits != ABSENT,
+        line.has(Asked),
     );
     requests(
         &mut x[in_optional_requests::REQUESTS..in_optional_requests::END],
-        bits,
+        line.cell(Asked),
     );
 }
 
-fn times(x: &mut [u8], n: Numbers)
+fn times(x: &mut [u8], line: &Line)
     requires { length x.old ≡ size_of_times }
 {
-    origin(&mut x[in_times::ORIGIN..in_times::PERISH], n);
+    origin(&mut x[in_times::ORIGIN..in_times::PERISH], line);
     flag(&mut x[in_times::PERISH..in_times::REQUESTS], false);
-    optional_requests(&mut x[in_times::REQUESTS..in_times::END], n[ASKED]);
+    optional_requests(&mut x[in_times::REQUESTS..in_times::END], line);
 }
 
 fn compliance(x: &mut [u8], code: u32)
@@ -158,39 +139,40 @@ fn compliance(x: &mut [u8], code: u32)
     flag(&mut x[in_compliance::CANTPRO..in_compliance::END], false);
 }
 
-fn response(x: &mut [u8], n: Numbers)
+fn response(x: &mut [u8], line: &Line)
     requires { length x.old ≡ size_of_response }
 {
-    let s = stamp(n);
-    crate::put::stamp(&mut x[in_response::STAMP..in_response::COMPLIANCE], s);
+    stamp(
+        &mut x[in_response::STAMP..in_response::COMPLIANCE],
+        line.stamp(),
+    );
     compliance(
         &mut x[in_response::COMPLIANCE..in_response::AMPLIFICATION],
-        n[CODE],
+        line.cell(Code),
     );
     flag(&mut x[in_response::AMPLIFICATION..in_response::END], false);
 }
 
 // G8.
-fn optional_response(x: &mut [u8], n: Numbers)
+fn optional_response(x: &mut [u8], line: &Line)
     requires { length x.old ≡ size_of_optional_response }
 {
-    let present = n[CODE] != ABSENT;
     flag(
         &mut x[in_optional_response::PRESENT..in_optional_response::RESPONSE],
-        present,
+        line.has(Code),
     );
     response(
         &mut x[in_optional_response::RESPONSE..in_optional_response::END],
-        n,
+        line,
     );
 }
 
-pub fn block(x: &mut [u8], n: Numbers)
+pub fn block(x: &mut [u8], line: &Line)
     requires { length x.old ≡ size_of_block }
 {
-    format(&mut x[in_block::FORMAT..in_block::HANDLING], n);
-    handling(&mut x[in_block::HANDLING..in_block::TIMES], n);
-    times(&mut x[in_block::TIMES..in_block::RESPONSE], n);
-    optional_response(&mut x[in_block::RESPONSE..in_block::REFERENCES], n);
+    format(&mut x[in_block::FORMAT..in_block::HANDLING], line);
+    handling(&mut x[in_block::HANDLING..in_block::TIMES], line);
+    times(&mut x[in_block::TIMES..in_block::RESPONSE], line);
+    optional_response(&mut x[in_block::RESPONSE..in_block::REFERENCES], line);
     flag(&mut x[in_block::REFERENCES..in_block::END], false);
 }

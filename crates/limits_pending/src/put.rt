@@ -33,29 +33,28 @@ pub fn number(x: &mut [u8], n: OptionalNumber)
 fn text(x: &mut [u8], t: Text)
     requires { length x.old ≡ size_of_text }
 {
-    let chars = t.chars;
-    store_chars(&mut x[in_text::CHARS..in_text::LEN], chars);
+    store_chars(&mut x[in_text::CHARS..in_text::LEN], t.chars);
     store_word(&mut x[in_text::LEN..in_text::END], t.len);
 }
 
 fn optional_text(x: &mut [u8], t: OptionalText)
     requires { length x.old ≡ size_of_optional_text }
 {
-    let there = t.text;
     flag(
         &mut x[in_optional_text::PRESENT..in_optional_text::TEXT],
         t.present,
     );
-    text(&mut x[in_optional_text::TEXT..in_optional_text::END], there);
+    text(
+        &mut x[in_optional_text::TEXT..in_optional_text::END],
+        t.text,
+    );
 }
 
 pub fn address(x: &mut [u8], a: Address)
     requires { length x.old ≡ size_of_address }
 {
-    let urn = a.urn;
-    let name = a.name;
-    number(&mut x[in_address::URN..in_address::NAME], urn);
-    optional_text(&mut x[in_address::NAME..in_address::END], name);
+    number(&mut x[in_address::URN..in_address::NAME], a.urn);
+    optional_text(&mut x[in_address::NAME..in_address::END], a.name);
 }
 
 pub fn date(x: &mut [u8], d: Date)
@@ -77,17 +76,13 @@ fn time(x: &mut [u8], t: Time)
 fn dtg(x: &mut [u8], d: Dtg)
     requires { length x.old ≡ size_of_dtg }
 {
-    let day = d.date;
-    let moment = d.time;
-    date(&mut x[in_dtg::DATE..in_dtg::TIME], day);
-    time(&mut x[in_dtg::TIME..in_dtg::END], moment);
+    date(&mut x[in_dtg::DATE..in_dtg::TIME], d.date);
+    time(&mut x[in_dtg::TIME..in_dtg::END], d.time);
 }
 
 pub fn stamp(x: &mut [u8], s: Stamp)
     requires { length x.old ≡ size_of_stamp }
 {
-    let group = s.dtg;
-    let extension = s.extension;
-    dtg(&mut x[in_stamp::DTG..in_stamp::EXTENSION], group);
-    number(&mut x[in_stamp::EXTENSION..in_stamp::END], extension);
+    dtg(&mut x[in_stamp::DTG..in_stamp::EXTENSION], s.dtg);
+    number(&mut x[in_stamp::EXTENSION..in_stamp::END], s.extension);
 }

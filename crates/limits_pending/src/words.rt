@@ -1,258 +1,244 @@
-// A line of a script, read character by character. A capital letter begins a part, a number behind it belongs
-// to it, which is 0 if there is none, and a name stands in round brackets; other characters are there for the reader.
-// Each To adds a recipient.
+// A line of a script. Its first word is the call. A capital letter behind it begins a part, a number behind that belongs
+// to the part, which is 0 if there is none, and a name stands in round brackets; other characters are there for the
+// reader. Each To adds a recipient.
+use Part::*;
 use header::zero::{NO_NUMBER, no_address};
-use header::{Address, OptionalText};
+use header::{Address, Date, Dtg, Stamp, Time};
 use optional::OptionalNumber;
-use text::Text;
 
-// Stands for a part that a line does not have, where it has no other usual number.
-pub const ABSENT: u32 = 4294967295;
+// What the cell of a number holds for a part that a line does not have.
+pub const ABSENT: u32 = u32::MAX;
 
-// The parts' letters, counted from A.
-pub const ASKED: usize = 0;
-
-pub const BLOCKS: usize = 1;
-
-pub const CODE: usize = 2;
-
-pub const DAY: usize = 3;
-
-pub const IDENTIFIED: usize = 4;
-
-pub const FROM: usize = 5;
-
-pub const GIVEN: usize = 6;
-
-pub const HOUR: usize = 7;
-
-pub const IN_FORMAT: usize = 8;
-
-pub const KIND: usize = 10;
-
-pub const LATER_FORMAT: usize = 11;
-
-pub const MINUTE: usize = 12;
-
-pub const NUMBER: usize = 13;
-
-pub const OF_MONTH: usize = 14;
-
-pub const SECOND: usize = 18;
-
-pub const TO: usize = 19;
-
-pub const USER_DATA: usize = 20;
-
-pub const VERSION: usize = 21;
-
-pub const WITH_STANDARD: usize = 22;
-
-pub const EXTENSION: usize = 23;
-
-pub const YEAR: usize = 24;
-
-pub const NO_HEADER_SIZE: usize = 25;
-
-pub type Numbers = [u32; 26];
-
-// What has been read of a line: its first letter, its numbers, its addresses; and the part that is being read,
-// with the forms of its address.
+// The parts of a line, each named by the words of which one begins with the part's letter.
 #[derive(Clone, Copy)]
-pub struct Line {
-    pub verb: u8,
-    pub numbers: Numbers,
-    pub sent: bool,
-    pub from: Address,
-    pub to: [Address; 16],
-    pub count: u32,
-    part: usize,
-    urn: OptionalNumber,
-    named: bool,
-    chars: [u8; 64],
-    len: u32,
-    quoted: bool,
+pub enum Part {
+    Asked,
+    Blocks,
+    Code,
+    Day,
+    Identified,
+    FromAddress,
+    Given,
+    Hour,
+    InFormat,
+    Kind,
+    LaterFormat,
+    Minute,
+    Number,
+    OfMonth,
+    Second,
+    ToAddress,
+    UserData,
+    Version,
+    WithStandard,
+    Extension,
+    Year,
+    NoHeaderSize,
 }
 
-// The DTG, without an extension, is that of document 01's octets B; block 1 of 1, in UMF 2 without G4.
-const USUAL: Numbers = [
-    ABSENT, // ASKED
-    1, // BLOCKS
-    ABSENT, // CODE
-    3, // DAY
-    ABSENT, // IDENTIFIED
-    0, // FROM
-    4096, // GIVEN
-    16, // HOUR
-    2, // IN_FORMAT
-    0, // J
-    0, // KIND
-    2, // LATER_FORMAT
-    27, // MINUTE
-    1, // NUMBER
-    7, // OF_MONTH
-    0, // P
-    0, // Q
-    0, // R
-    55, // SECOND
-    0, // TO
-    ABSENT, // USER_DATA
-    2, // VERSION
-    ABSENT, // WITH_STANDARD
-    ABSENT, // EXTENSION
-    96, // YEAR
-    ABSENT, // NO_HEADER_SIZE
-];
-
-pub fn no_line() -> Line {
-    let none = no_address();
-    Line {
-        verb: 0,
-        numbers: USUAL,
-        sent: false,
-        from: none,
-        to: [none; 16],
-        count: 0,
-        part: 26,
-        urn: NO_NUMBER,
-        named: false,
-        chars: [0; 64],
-        len: 0,
-        quoted: false,
-    }
-}
-
-fn address(line: Line) -> Address {
-    let urn = line.urn;
-    let chars = line.chars;
-    Address {
-        urn: urn,
-        name: OptionalText {
-            present: line.named,
-            text: Text {
-                chars: chars,
-                len: line.len,
-            },
-        },
-    }
-}
-
-// The address that is being read, put where it belongs.
-fn placed(line: Line) -> Line {
-    let mut l = line;
-    let a = address(line);
-    let part = line.part;
-    let n = line.count;
-    if part == FROM {
-        l.sent = true;
-        l.from = a;
-    }
-    if part == TO {
-        if n < 1 {
-            return l;
-        }
-        if n <= 16 {
-            let i = n as usize - 1;
-            l.to[i] = a;
+impl Part {
+    fn of_letter(letter: u8) -> Option<Part> {
+        match letter {
+            b'A' => Some(Asked),
+            b'B' => Some(Blocks),
+            b'C' => Some(Code),
+            b'D' => Some(Day),
+            b'E' => Some(Identified),
+            b'F' => Some(FromAddress),
+            b'G' => Some(Given),
+            b'H' => Some(Hour),
+            b'I' => Some(InFormat),
+            b'K' => Some(Kind),
+            b'L' => Some(LaterFormat),
+            b'M' => Some(Minute),
+            b'N' => Some(Number),
+            b'O' => Some(OfMonth),
+            b'S' => Some(Second),
+            b'T' => Some(ToAddress),
+            b'U' => Some(UserData),
+            b'V' => Some(Version),
+            b'W' => Some(WithStandard),
+            b'X' => Some(Extension),
+            b'Y' => Some(Year),
+            b'Z' => Some(NoHeaderSize),
+            _ => None,
         }
     }
-    l
-}
-
-fn begun(line: Line, part: usize) -> Line {
-    let mut l = line;
-    let n = line.count;
-    let none = NO_NUMBER;
-    l.part = part;
-    l.urn = none;
-    l.named = false;
-    l.len = 0;
-    if part < 26 {
-        l.numbers[part] = 0;
-    }
-    if part == TO {
-        if n < 17 {
-            l.count = n + 1;
-        }
-    }
-    placed(l)
-}
-
-fn with_digit(line: Line, digit: u32) -> Line {
-    let mut l = line;
-    let part = line.part;
-    if 26 <= part {
-        return l;
-    }
-    let n = l.numbers[part] % 100000000 * 10 + digit % 10;
-    l.numbers[part] = n;
-    let urn = OptionalNumber {
-        present: true,
-        value: n,
-    };
-    l.urn = urn;
-    placed(l)
 }
 
 // Characters that a script writes as others: quote, backslash, a control character, and one that is illegal.
 fn meant(c: u8) -> u8 {
     match c {
-        b'\'' => 34,
-        b'/' => 92,
+        b'\'' => b'"',
+        b'/' => b'\\',
         b'^' => 31,
         b'~' => 127,
         _ => c,
     }
 }
 
-// A 65th character is counted, but has no cell.
-fn with_character(line: Line, c: u8) -> Line {
-    let mut l = line;
-    let n = line.len;
-    if n < 64 {
-        let i = n as usize;
-        l.chars[i] = meant(c);
-    }
-    if n < 65 {
-        l.len = n + 1;
-    }
-    l
+// What has been read of a line: its numbers and its addresses, of which the count may be one too many; and the part
+// that is being read, with its address, and whether a name is.
+#[derive(Clone, Copy)]
+pub struct Line {
+    numbers: [Option<u32>; 22],
+    pub from: Option<Address>,
+    pub to: [Address; 16],
+    pub count: u32,
+    part: Option<Part>,
+    address: Address,
+    quoted: bool,
 }
 
-fn in_name(line: Line, c: u8) -> Line {
-    if c != b')' {
-        return with_character(line, c);
+impl Line {
+    // The DTG, without an extension, is that of document 01's octets B; block 1 of 1, in UMF 2 without G4.
+    fn new() -> Line {
+        let mut line = Line {
+            numbers: [None; 22],
+            from: None,
+            to: [no_address(); 16],
+            count: 0,
+            part: None,
+            address: no_address(),
+            quoted: false,
+        };
+        for (part, number) in [
+            (Blocks, 1),
+            (Day, 3),
+            (Given, 4096),
+            (Hour, 16),
+            (InFormat, 2),
+            (Kind, 0),
+            (LaterFormat, 2),
+            (Minute, 27),
+            (Number, 1),
+            (OfMonth, 7),
+            (Second, 55),
+            (Version, 2),
+            (Year, 96),
+        ] {
+            line.numbers[part as usize] = Some(number);
+        }
+        line
     }
-    let mut l = line;
-    l.quoted = false;
-    l.named = true;
-    placed(l)
-}
 
-// The line with one character more.
-pub fn taken(line: Line, c: u8) -> Line {
-    let mut l = line;
-    let verb = line.verb;
-    let quoted = line.quoted;
-    if verb == 0 {
-        l.verb = c;
-        return l;
+    // The parts that stand behind the first word.
+    pub fn read(parts: &str) -> Line {
+        let mut line = Line::new();
+        for c in parts.bytes() {
+            line.take(c);
+        }
+        line
     }
-    if quoted {
-        return in_name(line, c);
+
+    pub fn get(&self, part: Part) -> Option<u32> {
+        self.numbers[part as usize]
     }
-    if c < b'0' {
-        l.quoted = c == b'(';
-        return l;
+
+    pub fn has(&self, part: Part) -> bool {
+        self.get(part).is_some()
     }
-    if c <= b'9' {
-        return with_digit(line, (c - b'0') as u32);
+
+    pub fn cell(&self, part: Part) -> u32 {
+        self.get(part).unwrap_or(ABSENT)
     }
-    if c < b'A' {
-        return line;
+
+    pub fn optional(&self, part: Part) -> OptionalNumber {
+        OptionalNumber {
+            present: self.has(part),
+            value: self.cell(part),
+        }
     }
-    if c <= b'Z' {
-        return begun(line, (c - b'A') as usize);
+
+    pub fn stamp(&self) -> Stamp {
+        Stamp {
+            dtg: Dtg {
+                date: Date {
+                    year: self.cell(Year),
+                    month: self.cell(OfMonth),
+                    day: self.cell(Day),
+                },
+                time: Time {
+                    hour: self.cell(Hour),
+                    minute: self.cell(Minute),
+                    second: self.cell(Second),
+                },
+            },
+            extension: self.optional(Extension),
+        }
     }
-    line
+
+    // The same with another number.
+    pub fn with(mut self, part: Part, number: Option<u32>) -> Line {
+        self.numbers[part as usize] = number;
+        self
+    }
+
+    // The address that is being read, put where it belongs. A 17th recipient is counted, but has no place.
+    fn place(&mut self) {
+        match self.part {
+            Some(FromAddress) => self.from = Some(self.address),
+            Some(ToAddress) if 1 <= self.count && self.count <= 16 => {
+                self.to[self.count as usize - 1] = self.address;
+            }
+            _ => {}
+        }
+    }
+
+    // The cells behind a name keep what an earlier name left in them.
+    fn begin(&mut self, letter: u8) {
+        self.part = Part::of_letter(letter);
+        self.address.urn = NO_NUMBER;
+        self.address.name.present = false;
+        self.address.name.text.len = 0;
+        if let Some(part) = self.part {
+            self.numbers[part as usize] = Some(0);
+            if let ToAddress = part
+                && self.count < 17
+            {
+                self.count += 1;
+            }
+        }
+        self.place();
+    }
+
+    fn take_digit(&mut self, digit: u8) {
+        if let Some(part) = self.part {
+            let number = self.cell(part) % 100000000 * 10 + u32::from(digit);
+            self.numbers[part as usize] = Some(number);
+            self.address.urn = OptionalNumber {
+                present: true,
+                value: number,
+            };
+            self.place();
+        }
+    }
+
+    // A character of a name, or the bracket behind it. A 65th character is counted, but has no cell.
+    fn take_quoted(&mut self, c: u8) {
+        if c == b')' {
+            self.quoted = false;
+            self.address.name.present = true;
+            return self.place();
+        }
+        let len = self.address.name.text.len;
+        if len < 64 {
+            self.address.name.text.chars[len as usize] = meant(c);
+        }
+        if len < 65 {
+            self.address.name.text.len = len + 1;
+        }
+    }
+
+    fn take(&mut self, c: u8) {
+        if self.quoted {
+            return self.take_quoted(c);
+        }
+        match c {
+            b'(' => self.quoted = true,
+            b'0'..=b'9' => self.take_digit(c - b'0'),
+            b'A'..=b'Z' => self.begin(c),
+            _ => {}
+        }
+    }
 }

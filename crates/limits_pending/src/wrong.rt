@@ -1,21 +1,12 @@
-// Tables that no call makes: one change in a table that calls have made.
-ghost use Rattle.std.specs.Prelude.{◌≡◌, ◌+◌, ◌≤◌, length};
+// Tables that no call makes: one change in a table that calls have made. Its kind is the number that a line tells.
+ghost use Rattle.std.specs.Prelude.{◌≡◌, length};
 ghost use Rattle.table_octets.specs.Table.{size_of_key, size_of_recipient, size_of_row, size_of_table};
 
 use crate::put::date;
-use cells::{clear, copy, move_up, store_word};
+use cells::{clear, move_up, store_word};
 use header::Date;
 use record_octets::{in_address, in_dtg, in_optional_number, in_stamp, in_time};
 use table_octets::{TABLE, in_key, in_recipient, in_row, in_table};
-
-// The first two of things of n octets each change places.
-fn exchange(list: &mut [u8], n: usize, spare: &mut [u8])
-    requires { (n + n ≤ length list.old) × (n ≤ length spare.old) }
-{
-    copy(spare, 0, list, n, n);
-    move_up(list, 0, n, n);
-    copy(list, 0, spare, 0, n);
-}
 
 // Kinds 11 to 17: a recipient with a code that is wrong in a row that asks for machine and reply, or with an illegal
 // address.
@@ -76,16 +67,8 @@ fn wrong_row(r: &mut [u8], kind: u32)
         7 => store_word(&mut r[in_row::COUNT..in_row::END], 0),
         8 => store_word(&mut r[in_row::COUNT..in_row::END], 17),
         9 => move_up(r, in_row::RECIPIENTS, second, in_row::ENTRY),
-        10 => {
-            let mut spare = [0u8; in_row::ENTRY];
-            exchange(
-                &mut r[in_row::RECIPIENTS..in_row::COUNT],
-                in_row::ENTRY,
-                &mut spare,
-            );
-        }
-        16 => wrong_recipient(&mut r[second..second + in_row::ENTRY], kind),
-        17 => wrong_recipient(&mut r[second..second + in_row::ENTRY], kind),
+        10 => r[in_row::RECIPIENTS..second + in_row::ENTRY].rotate_left(in_row::ENTRY),
+        16 | 17 => wrong_recipient(&mut r[second..second + in_row::ENTRY], kind),
         101..=999999 => other_date(&mut r[in_row::KEY..in_row::ASKED], kind),
         _ => wrong_recipient(&mut r[in_row::RECIPIENTS..second], kind),
     }
@@ -100,10 +83,7 @@ fn wrong_table(t: &mut [u8], kind: u32)
     match kind {
         1 => store_word(&mut t[in_table::COUNT..in_table::END], 33),
         2 => move_up(t, 0, in_table::ENTRY, in_table::ENTRY),
-        3 => {
-            let mut spare = [0u8; in_table::ENTRY];
-            exchange(t, in_table::ENTRY, &mut spare);
-        }
+        3 => t[0..2 * in_table::ENTRY].rotate_left(in_table::ENTRY),
         18 => {
             move_up(t, 0, in_table::ENTRY, last);
             wrong_row(&mut t[last..in_table::COUNT], 8);

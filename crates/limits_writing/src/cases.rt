@@ -1,101 +1,55 @@
 // Cases that differ from document 01's octets A in one, two or three numbers. A case's name is made of these
 // numbers, of the octets of user data unless there is one, and of the room unless it is the whole output.
-use crate::plan::{FLAG, PLAIN, Plan, changed, part};
+use crate::plan::Key::Flags;
+use crate::plan::{Change, Plan, plain};
 use crate::records::record;
-use crate::tell::{WHOLE, line, print, print_number};
-use record_octets::RECORD;
+use crate::tell::{WHOLE, line};
 use std::io;
 
-// A part of a case's name that is left out where the number is the usual one.
-fn unusual(rt: &impl Print, label: &[u8], n: usize, usual: usize) -> io::Result<()> {
-    if n != usual {
-        print(rt, label)?;
-        print_number(rt, n as u64)?;
+pub fn with_room(rt: &impl Print, p: Plan, data: usize, room: usize) -> io::Result<()> {
+    if data != 1 {
+        print!(rt; ", data {data}")?;
     }
-    Ok(())
+    if room != WHOLE {
+        print!(rt; ", room {room}")?;
+    }
+    line(rt, &record(&p), data, room, false)
 }
 
-// The octets of the record that belong to no cell hold rubbish.
-fn case(rt: &impl Print, p: Plan, count: usize, room: usize, hex: bool) -> io::Result<()> {
-    let mut h = [165u8; RECORD];
-    record(p, &mut h);
-    line(rt, &h, count, room, hex)?;
-    Ok(())
+// A plan, and the changes that make the case's name.
+fn changed(rt: &impl Print, p: Plan, changes: &[Change]) -> io::Result<Plan> {
+    for (i, change) in changes.iter().enumerate() {
+        if i != 0 {
+            print!(rt; ", ")?;
+        }
+        print!(rt; "{change}")?;
+    }
+    Ok(p.with(changes))
 }
 
-pub fn with_room(rt: &impl Print, p: Plan, count: usize, room: usize) -> io::Result<()> {
-    unusual(rt, b", data ", count, 1)?;
-    unusual(rt, b", room ", room, WHOLE)?;
-    case(rt, p, count, room, false)?;
-    Ok(())
+// Changes that the case's name tells, to a plan of which it tells nothing.
+pub fn case_of(rt: &impl Print, p: Plan, changes: &[Change], data: usize) -> io::Result<()> {
+    with_room(rt, changed(rt, p, changes)?, data, WHOLE)
 }
 
-pub fn with_data(rt: &impl Print, p: Plan, count: usize) -> io::Result<()> {
-    with_room(rt, p, count, WHOLE)
-}
-
-fn first(rt: &impl Print, key: usize, value: u32) -> io::Result<Plan> {
-    part(rt, key, value)?;
-    Ok(changed(PLAIN, key, value))
-}
-
-fn then(rt: &impl Print, p: Plan, key: usize, value: u32) -> io::Result<Plan> {
-    print(rt, b", ")?;
-    part(rt, key, value)?;
-    Ok(changed(p, key, value))
-}
-
-pub fn one(rt: &impl Print, key: usize, value: u32, count: usize) -> io::Result<()> {
-    with_data(rt, first(rt, key, value)?, count)
-}
-
-pub fn two(
-    rt: &impl Print,
-    key: usize,
-    value: u32,
-    key2: usize,
-    value2: u32,
-    count: usize,
-) -> io::Result<()> {
-    with_data(rt, then(rt, first(rt, key, value)?, key2, value2)?, count)
-}
-
-pub fn three(
-    rt: &impl Print,
-    key: usize,
-    value: u32,
-    key2: usize,
-    value2: u32,
-    key3: usize,
-    value3: u32,
-    count: usize,
-) -> io::Result<()> {
-    let p = then(rt, first(rt, key, value)?, key2, value2)?;
-    with_data(rt, then(rt, p, key3, value3)?, count)?;
-    Ok(())
+pub fn case(rt: &impl Print, changes: &[Change], data: usize) -> io::Result<()> {
+    case_of(rt, plain(), changes, data)
 }
 
 // One change, and an output without an octet.
-pub fn without_room(rt: &impl Print, key: usize, value: u32) -> io::Result<()> {
-    with_room(rt, first(rt, key, value)?, 1, 0)
+pub fn without_room(rt: &impl Print, change: Change) -> io::Result<()> {
+    with_room(rt, changed(rt, plain(), &[change])?, 1, 0)
 }
 
 // A case with a name of its own and the header's octets.
-pub fn shown(rt: &impl Print, name: &[u8], p: Plan, count: usize) -> io::Result<()> {
-    print(rt, name)?;
-    case(rt, p, count, WHOLE, true)?;
-    Ok(())
+pub fn shown(rt: &impl Print, name: &str, p: Plan, data: usize) -> io::Result<()> {
+    print!(rt; "{name}")?;
+    line(rt, &record(&p), data, WHOLE, true)
 }
 
 // The same with another octet in every flag that is set.
-pub fn with_flags(
-    rt: &impl Print,
-    name: &[u8],
-    p: Plan,
-    octet: u32,
-    count: usize,
-) -> io::Result<()> {
-    print(rt, name)?;
-    case(rt, then(rt, p, FLAG, octet)?, count, WHOLE, true)?;
-    Ok(())
+pub fn with_flags(rt: &impl Print, name: &str, p: Plan, octet: u32, data: usize) -> io::Result<()> {
+    let change = Flags.is(octet);
+    print!(rt; "{name}, {change}")?;
+    line(rt, &record(&p.with(&[change])), data, WHOLE, true)
 }

@@ -55,8 +55,7 @@ fn fields(rt: &impl Print) -> io::Result<()> {
     lists::forms_in_lists(rt)?;
     lists::addressees(rt)?;
     lists::blocks(rt)?;
-    lists::references(rt)?;
-    Ok(())
+    lists::references(rt)
 }
 
 fn main(rt: HostRuntime) -> io::Result<()> {
@@ -81,6 +80,5 @@ fn main(rt: HostRuntime) -> io::Result<()> {
     order::checks(&rt)?;
     unused::unused_cells(&rt)?;
     flags::written(&rt)?;
-    flags::refused(&rt)?;
-    Ok(())
+    flags::refused(&rt)
 }

@@ -4,56 +4,56 @@ ghost use Rattle.record_octets.specs.Record.{size_of_addresses, size_of_addresse
 
 use crate::block::block;
 use crate::parts::*;
-use crate::plan::*;
+use crate::plan::Key::*;
+use crate::plan::Plan;
 use cells::store_word;
 use record_octets::{
     RECORD, in_addresses, in_blocks, in_front, in_header, in_optional_address,
     in_optional_addresses,
 };
 
-fn characters(place: u32, character: u32) -> [u8; 64] {
+// The characters of the originator's name, of which a plan may put in another.
+fn characters(p: &Plan) -> [u8; 64] {
     let mut chars = CHARACTERS;
-    if place < 64 {
-        chars[place as usize] = (character % 256) as u8;
+    if let Some(place) = p.get(Place)
+        && place < 64
+    {
+        chars[place as usize] = (p.cell(Character) % 256) as u8;
     }
     chars
 }
 
 // G1.
-fn originator(x: &mut [u8], p: Plan)
+fn originator(x: &mut [u8], p: &Plan)
     requires { length x.old ≡ size_of_optional_address }
 {
-    let present = (p[URN] != ABSENT) | (p[NAME] != ABSENT) | (p[NEITHER] == 1);
     flag(
         &mut x[in_optional_address::PRESENT..in_optional_address::ADDRESS],
-        present,
-        mark(p),
+        p.has(Urn) || p.has(Name) || p.is_set(Neither),
+        p.mark(),
     );
-    let chars = characters(p[PLACE], p[CHARACTER]);
     let there = &mut x[in_optional_address::ADDRESS..in_optional_address::END];
-    address(there, p[URN], chars, p[NAME], mark(p));
+    address(there, p.get(Urn), characters(p), p.get(Name), p.mark());
 }
 
 // All alike.
-fn address_list(list: &mut [u8], urn: u32, len: u32, mark: u8)
+fn address_list(list: &mut [u8], urn: Option<u32>, len: Option<u32>, mark: u8)
     requires { length list.old ≡ size_of_addresses_list }
 {
-    let mut i: usize = 0;
-    while i < 16 {
-        let at = i * in_addresses::ENTRY;
-        address(
-            &mut list[at..at + in_addresses::ENTRY],
-            urn,
-            CHARACTERS,
-            len,
-            mark,
-        );
-        i += 1;
+    for entry in list.chunks_exact_mut(in_addresses::ENTRY) {
+        address(entry, urn, CHARACTERS, len, mark);
     }
 }
 
 // The first has a URN of its own.
-fn addresses(x: &mut [u8], first: u32, rest: u32, len: u32, count: u32, mark: u8)
+fn addresses(
+    x: &mut [u8],
+    first: Option<u32>,
+    rest: Option<u32>,
+    len: Option<u32>,
+    count: u32,
+    mark: u8,
+)
     requires { length x.old ≡ size_of_addresses }
 {
     address_list(
@@ -73,49 +73,50 @@ fn addresses(x: &mut [u8], first: u32, rest: u32, len: u32, count: u32, mark: u8
 }
 
 // G2.
-fn recipients(x: &mut [u8], p: Plan)
+fn recipients(x: &mut [u8], p: &Plan)
     requires { length x.old ≡ size_of_optional_addresses }
 {
-    let count = p[RECIPIENTS];
     flag(
         &mut x[in_optional_addresses::PRESENT..in_optional_addresses::ADDRESSES],
-        count != ABSENT,
-        mark(p),
+        p.has(Recipients),
+        p.mark(),
     );
     let there = &mut x[in_optional_addresses::ADDRESSES..in_optional_addresses::END];
     addresses(
         there,
-        p[RECIPIENT_URN],
-        p[NEXT_RECIPIENT],
-        p[RECIPIENT_NAME],
-        count,
-        mark(p),
+        p.get(RecipientUrn),
+        p.get(NextRecipient),
+        p.get(RecipientName),
+        p.cell(Recipients),
+        p.mark(),
     );
 }
 
 // G3.
-fn information(x: &mut [u8], p: Plan)
+fn information(x: &mut [u8], p: &Plan)
     requires { length x.old ≡ size_of_optional_addresses }
 {
-    let count = p[INFORMATION];
-    let urn = p[INFORMATION_URN];
+    let urn = p.get(InformationUrn);
     flag(
         &mut x[in_optional_addresses::PRESENT..in_optional_addresses::ADDRESSES],
-        count != ABSENT,
-        mark(p),
+        p.has(Information),
+        p.mark(),
     );
     let there = &mut x[in_optional_addresses::ADDRESSES..in_optional_addresses::END];
-    addresses(there, urn, urn, ABSENT, count, mark(p));
+    addresses(there, urn, urn, None, p.cell(Information), p.mark());
 }
 
-fn front(x: &mut [u8], p: Plan)
+fn front(x: &mut [u8], p: &Plan)
     requires { length x.old ≡ size_of_front }
 {
-    store_word(&mut x[in_front::VERSION..in_front::COMPRESSION], p[VERSION]);
+    store_word(
+        &mut x[in_front::VERSION..in_front::COMPRESSION],
+        p.cell(Version),
+    );
     optional(
         &mut x[in_front::COMPRESSION..in_front::ORIGINATOR],
-        p[COMPRESSION],
-        mark(p),
+        p.get(Compression),
+        p.mark(),
     );
     originator(&mut x[in_front::ORIGINATOR..in_front::RECIPIENTS], p);
     recipients(&mut x[in_front::RECIPIENTS..in_front::INFORMATION], p);
@@ -123,55 +124,53 @@ fn front(x: &mut [u8], p: Plan)
 }
 
 // The plan of the blocks behind the first.
-fn next(p: Plan) -> Plan {
-    let mut q = p;
-    q[UMF] = p[NEXT_UMF];
-    q[SIZE] = p[NEXT_SIZE];
-    q[CODE] = p[NEXT_CODE];
-    q[STANDARD] = p[NEXT_STANDARD];
-    q
+fn next(p: &Plan) -> Plan {
+    p.with(&[
+        Umf.maybe(p.get(NextUmf)),
+        Size.maybe(p.get(NextSize)),
+        Code.maybe(p.get(NextCode)),
+        Standard.maybe(p.get(NextStandard)),
+    ])
 }
 
 // The plan of the 16th block.
-fn last(p: Plan) -> Plan {
-    let mut q = next(p);
-    q[SIZE] = p[LAST_SIZE];
-    q
+fn last(p: &Plan) -> Plan {
+    next(p).with(&[Size.maybe(p.get(LastSize))])
 }
 
 // All alike.
-fn block_list(list: &mut [u8], p: Plan)
+fn block_list(list: &mut [u8], p: &Plan)
     requires { length list.old ≡ size_of_blocks_list }
 {
-    let mut i: usize = 0;
-    while i < 16 {
-        let at = i * in_blocks::ENTRY;
-        block(&mut list[at..at + in_blocks::ENTRY], p);
-        i += 1;
+    for entry in list.chunks_exact_mut(in_blocks::ENTRY) {
+        block(entry, p);
     }
 }
 
-fn blocks(x: &mut [u8], p: Plan)
+fn blocks(x: &mut [u8], p: &Plan)
     requires { length x.old ≡ size_of_blocks }
 {
-    block_list(&mut x[in_blocks::LIST..in_blocks::COUNT], next(p));
+    block_list(&mut x[in_blocks::LIST..in_blocks::COUNT], &next(p));
     block(&mut x[in_blocks::LIST..in_blocks::ENTRY], p);
-    block(&mut x[15 * in_blocks::ENTRY..in_blocks::COUNT], last(p));
-    store_word(&mut x[in_blocks::COUNT..in_blocks::END], p[BLOCKS]);
+    block(&mut x[15 * in_blocks::ENTRY..in_blocks::COUNT], &last(p));
+    store_word(&mut x[in_blocks::COUNT..in_blocks::END], p.cell(Blocks));
 }
 
-fn header(x: &mut [u8], p: Plan)
+fn header(x: &mut [u8], p: &Plan)
     requires { length x.old ≡ size_of_header }
 {
     front(&mut x[in_header::FRONT..in_header::SIZED], p);
     flag(
         &mut x[in_header::SIZED..in_header::BLOCKS],
-        p[SIZED] == 1,
-        mark(p),
+        p.is_set(HeaderSize),
+        p.mark(),
     );
     blocks(&mut x[in_header::BLOCKS..in_header::END], p);
 }
 
-pub fn record(p: Plan, h: &mut [u8; RECORD]) {
-    header(h, p);
+// The octets that belong to no cell hold rubbish.
+pub fn record(p: &Plan) -> [u8; RECORD] {
+    let mut h = [165u8; RECORD];
+    header(&mut h, p);
+    h
 }
