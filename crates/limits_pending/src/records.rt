@@ -114,7 +114,7 @@ pub fn record(line: &Line) -> [u8; RECORD] {
     h
 }
 
-fn put_key(x: &mut [u8], line: &Line)
+fn fill_key(x: &mut [u8], line: &Line)
     requires { length x.old ≡ size_of_key }
 {
     let from = line.from.unwrap_or(no_address());
@@ -125,7 +125,7 @@ fn put_key(x: &mut [u8], line: &Line)
 // The key of a release, with rubbish in what is absent.
 pub fn key(line: &Line) -> [u8; KEY] {
     let mut k = [165u8; KEY];
-    put_key(&mut k, line);
+    fill_key(&mut k, line);
     k
 }
 
