@@ -8,6 +8,6 @@ use Rattle.codec.specs.Lists.{cells, listed}
 abbrev pub behind_flag : {A : Type 0} → (List ℕ → A) → ℕ → ℕ → List ℕ → Bool × A
 behind_flag held place n s = (flag_in (part 0 place s), held (part place n s))
 
--- 1 to n + 1 of them in n + 1 cells, with their count
-abbrev pub counted : {A : Type 0} → A → Codec A → ℕ → Codec (List A × ℕ)
-counted x c n = cells x (suc n) (suc n) 5 (listed x c n)
+-- 1 to n + 1 of them in so many cells, with their count
+abbrev pub counted : {A : Type 0} → A → ℕ → Codec A → ℕ → Codec (List A × ℕ)
+counted x room c n = cells x room (suc n) 5 (listed x c n)
