@@ -2,13 +2,15 @@
 ghost use Rattle.std.specs.Prelude.{◌≡◌, length};
 ghost use Rattle.cells.specs.Cells.{word_in};
 ghost use Rattle.codec.specs.Refusals.{check_no};
-ghost use Rattle.header.specs.Table.{day_in, date, time, dtg, stamp};
-ghost use Rattle.record_octets.specs.Record.{size_of_date, date_in, size_of_time, time_in, size_of_dtg, dtg_in, size_of_stamp, stamp_in};
+ghost use Rattle.header.specs.Table.{day_in, date, time, stamp};
+ghost use Rattle.record_octets.specs.Record.{size_of_date, date_in, size_of_time, time_in, size_of_stamp, stamp_in};
 
+use crate::part::Check;
 use cells::load_word;
 use codec::Fault;
 use header::calendar::day_in;
 use header::layout::{EXTENSION, HOUR, MINUTE, MONTH, SECOND, YEAR};
+use header::{Dtg, Stamp};
 use leaves::numbers::{check_optional, check_word};
 use number::check_number;
 use record_octets::{in_date, in_dtg, in_stamp, in_time};
@@ -42,18 +44,23 @@ pub fn check_time(x: &[u8]) -> Result<(), Fault>
     check_word(SECOND, Fault::Code, &x[in_time::SECOND..in_time::END])
 }
 
-pub fn check_dtg(x: &[u8]) -> Result<(), Fault>
-    requires { length x.now ≡ size_of_dtg }
-    ensures { check_no result ≡ dtg.check (dtg_in x.now) }
-{
-    check_date(&x[in_dtg::DATE..in_dtg::TIME])?;
-    check_time(&x[in_dtg::TIME..in_dtg::END])
+impl Check for Dtg {
+    fn check(x: &[u8]) -> Result<(), Fault> {
+        check_date(&x[in_dtg::DATE..in_dtg::TIME])?;
+        check_time(&x[in_dtg::TIME..in_dtg::END])
+    }
+}
+
+impl Check for Stamp {
+    fn check(x: &[u8]) -> Result<(), Fault> {
+        Dtg::check(&x[in_stamp::DTG..in_stamp::EXTENSION])?;
+        check_optional(EXTENSION, &x[in_stamp::EXTENSION..in_stamp::END])
+    }
 }
 
 pub fn check_stamp(x: &[u8]) -> Result<(), Fault>
     requires { length x.now ≡ size_of_stamp }
     ensures { check_no result ≡ stamp.check (stamp_in x.now) }
 {
-    check_dtg(&x[in_stamp::DTG..in_stamp::EXTENSION])?;
-    check_optional(EXTENSION, &x[in_stamp::EXTENSION..in_stamp::END])
+    Stamp::check(x)
 }

@@ -1,41 +1,18 @@
 // The fields up to the end of G3.
 ghost use Rattle.std.specs.Prelude.{◌≡◌, ◌≤◌, length};
 ghost use Rattle.codec.specs.Refusals.{check_no};
-ghost use Rattle.header.specs.Table.{originator, recipients, information, front};
-ghost use Rattle.record_octets.specs.Record.{size_of_optional_address, optional_address_in, size_of_optional_addresses, optional_addresses_in, size_of_front, front_in};
+ghost use Rattle.header.specs.Table.{information, front};
+ghost use Rattle.record_octets.specs.Record.{size_of_optional_addresses, optional_addresses_in, size_of_front, front_in};
 
-use crate::address::{check_address, check_addresses};
+use crate::address::check_addresses;
+use crate::part::check_optional_part;
 use cells::load_flag;
 use codec::Fault;
 use header::layout::{COMPRESSION, VERSION};
+use header::{Address, Addresses};
 use leaves::addressees::room_behind;
 use leaves::numbers::{check_optional, check_word};
 use record_octets::{in_front, in_optional_address, in_optional_addresses};
-
-// G1.
-pub fn check_originator(x: &[u8]) -> Result<(), Fault>
-    requires { length x.now ≡ size_of_optional_address }
-    ensures { check_no result ≡ originator.check (optional_address_in x.now) }
-{
-    if load_flag(&x[in_optional_address::PRESENT..in_optional_address::ADDRESS]) {
-        return check_address(&x[in_optional_address::ADDRESS..in_optional_address::END]);
-    }
-    Ok(())
-}
-
-// G2.
-pub fn check_recipients(x: &[u8]) -> Result<(), Fault>
-    requires { length x.now ≡ size_of_optional_addresses }
-    ensures { check_no result ≡ recipients.check (optional_addresses_in x.now) }
-{
-    if load_flag(&x[in_optional_addresses::PRESENT..in_optional_addresses::ADDRESSES]) {
-        return check_addresses(
-            15,
-            &x[in_optional_addresses::ADDRESSES..in_optional_addresses::END],
-        );
-    }
-    Ok(())
-}
 
 // G3, with room for so many: present without room is one too many.
 pub fn check_information(room: usize, x: &[u8]) -> Result<(), Fault>
@@ -65,8 +42,14 @@ pub fn check_front(x: &[u8]) -> Result<(), Fault>
         &x[in_front::VERSION..in_front::COMPRESSION],
     )?;
     check_optional(COMPRESSION, &x[in_front::COMPRESSION..in_front::ORIGINATOR])?;
-    check_originator(&x[in_front::ORIGINATOR..in_front::RECIPIENTS])?;
-    check_recipients(&x[in_front::RECIPIENTS..in_front::INFORMATION])?;
+    check_optional_part::<Address>(
+        in_optional_address::ADDRESS,
+        &x[in_front::ORIGINATOR..in_front::RECIPIENTS],
+    )?;
+    check_optional_part::<Addresses>(
+        in_optional_addresses::ADDRESSES,
+        &x[in_front::RECIPIENTS..in_front::INFORMATION],
+    )?;
     let room = room_behind(&x[in_front::RECIPIENTS..in_front::INFORMATION]);
     check_information(room, &x[in_front::INFORMATION..in_front::END])
 }

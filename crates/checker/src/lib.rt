@@ -8,6 +8,7 @@ pub mod dtg;
 pub mod format;
 pub mod front;
 pub mod handling;
+pub mod part;
 pub mod references;
 pub mod response;
 pub mod texts;

@@ -1,16 +1,16 @@
 // A block's G8: the answer to a message.
 ghost use Rattle.std.specs.Prelude.{◌≡◌, length};
 ghost use Rattle.codec.specs.Refusals.{check_no};
-ghost use Rattle.header.specs.Table.{compliance, response, optional_response};
-ghost use Rattle.record_octets.specs.Record.{size_of_compliance, compliance_in, size_of_response, response_in, size_of_optional_response, optional_response_in};
+ghost use Rattle.header.specs.Table.{compliance};
+ghost use Rattle.record_octets.specs.Record.{size_of_compliance, compliance_in};
 
-use crate::dtg::check_stamp;
+use crate::part::Check;
 use crate::texts::check_optional_text;
-use cells::load_flag;
 use codec::Fault;
 use header::layout::{AMPLIFICATION, CANTCO, CANTPRO, COMPLIANCE};
+use header::{Response, Stamp};
 use leaves::numbers::{check_optional, check_word};
-use record_octets::{in_compliance, in_optional_response, in_response};
+use record_octets::{in_compliance, in_response};
 
 pub fn check_compliance(x: &[u8]) -> Result<(), Fault>
     requires { length x.now ≡ size_of_compliance }
@@ -25,24 +25,13 @@ pub fn check_compliance(x: &[u8]) -> Result<(), Fault>
     check_optional(CANTPRO, &x[in_compliance::CANTPRO..in_compliance::END])
 }
 
-pub fn check_response(x: &[u8]) -> Result<(), Fault>
-    requires { length x.now ≡ size_of_response }
-    ensures { check_no result ≡ response.check (response_in x.now) }
-{
-    check_stamp(&x[in_response::STAMP..in_response::COMPLIANCE])?;
-    check_compliance(&x[in_response::COMPLIANCE..in_response::AMPLIFICATION])?;
-    check_optional_text(
-        AMPLIFICATION,
-        &x[in_response::AMPLIFICATION..in_response::END],
-    )
-}
-
-pub fn check_optional_response(x: &[u8]) -> Result<(), Fault>
-    requires { length x.now ≡ size_of_optional_response }
-    ensures { check_no result ≡ optional_response.check (optional_response_in x.now) }
-{
-    if load_flag(&x[in_optional_response::PRESENT..in_optional_response::RESPONSE]) {
-        return check_response(&x[in_optional_response::RESPONSE..in_optional_response::END]);
+impl Check for Response {
+    fn check(x: &[u8]) -> Result<(), Fault> {
+        Stamp::check(&x[in_response::STAMP..in_response::COMPLIANCE])?;
+        check_compliance(&x[in_response::COMPLIANCE..in_response::AMPLIFICATION])?;
+        check_optional_text(
+            AMPLIFICATION,
+            &x[in_response::AMPLIFICATION..in_response::END],
+        )
     }
-    Ok(())
 }

@@ -4,9 +4,9 @@ use mathlib.Core.Path.{◌≡◌, refl, ap, sym, ◌∙◌}
 use mathlib.Core.Bool.{Bool, true, false}
 use Rattle.codec.proofs.Compose.{checking, handed}
 use Rattle.codec.specs.Codec.{Codec, first, flag, nothing, present, viewed, ◌then_by◌, ◌&◌}
-use Rattle.header.specs.Table.{times, optional_requests, requests}
+use Rattle.header.specs.Table.{times, optional_stamp, optional_dtg, optional_requests, requests}
 use Rattle.header.specs.declared.OptionalRequests.{OptionalRequests}
-use Rattle.record_octets.specs.Record.{times_in}
+use Rattle.record_octets.specs.Record.{times_in, optional_stamp_in, optional_dtg_in}
 use Rattle.checker.proofs.times.check_times.Goals as goal
 
 -- every value of G7 is legal
@@ -28,11 +28,11 @@ before-requests : {A : Type 0} (c : Codec A) (x : A) (y : OptionalRequests) (r :
 unfolding ◌then_by◌
 before-requests c x y r h = h ∙ sym (ap (first (c.check x)) (requests-fine y) ∙ first-none (c.check x))
 
-pub returns-in_err-check_optional_stamp : goal.returns-in_err-check_optional_stamp
-unfolding times times_in
-returns-in_err-check_optional_stamp c =
-    rw (handed _ c.in_err-check_optional_stamp.field-0.0 c.from_residual.ensures.1) (search (checking, c.in_err-check_optional_stamp.ensures) depth 14 fits 6000)
+pub returns-in_err-check_optional_part : goal.returns-in_err-check_optional_part
+unfolding times optional_stamp optional_dtg times_in optional_stamp_in optional_dtg_in
+returns-in_err-check_optional_part c =
+    rw (handed _ c.in_err-check_optional_part.field-0.0 c.from_residual.ensures.1) (search (checking, c.in_err-check_optional_part.ensures) depth 14 fits 6000)
 
 pub returns : goal.returns
-unfolding times times_in
-returns c = search (checking, before-requests, c.in_ok-check_optional_stamp.ensures, c.check_optional_dtg.ensures) depth 14 fits 6000
+unfolding times optional_stamp optional_dtg times_in optional_stamp_in optional_dtg_in
+returns c = search (checking, before-requests, c.in_ok-check_optional_part.ensures) depth 14 fits 6000

@@ -1,8 +1,8 @@
--- `checker::address::check_address` meets its contract. Assumes nothing.
+-- `checker::address::AddressCheck::check` meets its contract. Assumes nothing.
 use Rattle.codec.proofs.Compose.{checking, handed}
 use Rattle.header.specs.Table.{address}
 use Rattle.record_octets.specs.Record.{optional_number_in, address_in}
-use Rattle.checker.proofs.address.check_address.Goals as goal
+use Rattle.checker.proofs.address.AddressCheck.check.Goals as goal
 
 pub returns-in_err-check_optional : goal.returns-in_err-check_optional
 unfolding address address_in optional_number_in

@@ -1,8 +1,8 @@
--- `checker::dtg::check_dtg` meets its contract. Assumes nothing.
+-- `checker::dtg::DtgCheck::check` meets its contract. Assumes nothing.
 use Rattle.codec.proofs.Compose.{checking, handed}
 use Rattle.header.specs.Table.{dtg}
 use Rattle.record_octets.specs.Record.{dtg_in}
-use Rattle.checker.proofs.dtg.check_dtg.Goals as goal
+use Rattle.checker.proofs.dtg.DtgCheck.check.Goals as goal
 
 pub returns-in_err-check_date : goal.returns-in_err-check_date
 unfolding dtg dtg_in

@@ -1,8 +1,8 @@
--- `checker::format::check_identity` meets its contract. Assumes nothing.
+-- `checker::format::IdentityCheck::check` meets its contract. Assumes nothing.
 use Rattle.codec.proofs.Compose.{checking, handed}
 use Rattle.header.specs.Table.{identity}
 use Rattle.record_octets.specs.Record.{identity_in}
-use Rattle.checker.proofs.format.check_identity.Goals as goal
+use Rattle.checker.proofs.format.IdentityCheck.check.Goals as goal
 
 pub returns-in_err-check_word : goal.returns-in_err-check_word
 unfolding identity identity_in
