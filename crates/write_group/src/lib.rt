@@ -4,6 +4,7 @@
 pub mod dtg;
 pub mod format;
 pub mod handling;
+pub mod part;
 pub mod response;
 pub mod texts;
 pub mod times;

@@ -1,10 +1,10 @@
--- `write_group::dtg::write_dtg` meets its contract. Assumes nothing.
+-- `write_group::dtg::DtgWrite::write` meets its contract. Assumes nothing.
 use borrow.Author.Rules.{rules}
 use Rattle.codec.specs.Codec.{◌then_by◌, viewed}
 use Rattle.codec.proofs.Compose.{writing}
 use Rattle.header.specs.Table.{dtg}
 use Rattle.record_octets.specs.Record.{dtg_in}
-use Rattle.write_group.proofs.dtg.write_dtg.Goals as goal
+use Rattle.write_group.proofs.dtg.DtgWrite.write.Goals as goal
 
 pub write_date-at-requires : goal.write_date-at-requires
 unfolding dtg ◌then_by◌ viewed dtg_in

@@ -1,10 +1,10 @@
--- `write_group::format::write_identity` meets its contract. Assumes nothing.
+-- `write_group::format::IdentityWrite::write` meets its contract. Assumes nothing.
 use borrow.Author.Rules.{rules}
 use Rattle.codec.specs.Codec.{◌then_by◌, viewed, number}
 use Rattle.codec.proofs.Compose.{writing}
 use Rattle.header.specs.Table.{identity}
 use Rattle.record_octets.specs.Record.{identity_in}
-use Rattle.write_group.proofs.format.write_identity.Goals as goal
+use Rattle.write_group.proofs.format.IdentityWrite.write.Goals as goal
 
 pub write_word-at-requires : goal.write_word-at-requires
 unfolding identity ◌then_by◌ viewed number identity_in

@@ -1,10 +1,10 @@
--- `write_group::times::write_requests` meets its contract. Assumes nothing.
+-- `write_group::times::RequestsWrite::write` meets its contract. Assumes nothing.
 use borrow.Author.Rules.{rules}
 use Rattle.codec.specs.Codec.{◌then_by◌, viewed, flag}
 use Rattle.codec.proofs.Compose.{writing}
 use Rattle.header.specs.Table.{requests}
 use Rattle.record_octets.specs.Record.{requests_in}
-use Rattle.write_group.proofs.times.write_requests.Goals as goal
+use Rattle.write_group.proofs.times.RequestsWrite.write.Goals as goal
 
 pub write_mark-at-requires : goal.write_mark-at-requires
 unfolding requests ◌then_by◌ viewed flag requests_in
