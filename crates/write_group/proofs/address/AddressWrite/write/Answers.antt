@@ -1,4 +1,4 @@
--- `write_front::address::write_address` meets its contract. Assumes nothing.
+-- `write_group::address::AddressWrite::write` meets its contract. Assumes nothing.
 use borrow.Author.Rules.{rules}
 use Prim.Native.Nat.{ℕ}
 use mathlib.Core.Bool.{Bool}
@@ -9,7 +9,7 @@ use Rattle.codec.proofs.Compose.{writing}
 use Rattle.header.specs.Table.{address, unit_name, optional_text}
 use Rattle.header.specs.declared.OptionalText.{OptionalText}
 use Rattle.record_octets.specs.Record.{address_in}
-use Rattle.write_front.proofs.address.write_address.Goals as goal
+use Rattle.write_group.proofs.address.AddressWrite.write.Goals as goal
 
 -- the name's bits do not depend on which form is due
 name-writes : (b : Bool) (y : OptionalText) (s t : List ℕ) (p q : ℕ) → Writes (optional_text 64) y s t p q → Writes (unit_name b) y s t p q
