@@ -30,8 +30,18 @@ fn write_tail(out: &mut [u8], at: BitPlace, x: &[u8]) -> BitPlace
     requires { Room out.old at.0 ((optional_response & (optional_references closed_by 7)).size ((block_in x.now).response, (block_in x.now).references)) × (optional_references.check (block_in x.now).references ≡ 0) × (length x.now ≡ size_of_block) }
     ensures { Writes (optional_response & (optional_references closed_by 7)) ((block_in x.now).response, (block_in x.now).references) out.old out.new at.0 result.0 }
 {
-    let at = write_optional_part::<Response>(out, at, in_optional_response::RESPONSE, &x[in_block::RESPONSE..in_block::REFERENCES]);
-    let at = write_optional_part::<References>(out, at, in_optional_references::REFERENCES, &x[in_block::REFERENCES..in_block::END]);
+    let at = write_optional_part::<Response>(
+        out,
+        at,
+        in_optional_response::RESPONSE,
+        &x[in_block::RESPONSE..in_block::REFERENCES],
+    );
+    let at = write_optional_part::<References>(
+        out,
+        at,
+        in_optional_references::REFERENCES,
+        &x[in_block::REFERENCES..in_block::END],
+    );
     write_flag(out, at, false)
 }
 

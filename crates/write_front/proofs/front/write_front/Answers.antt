@@ -32,7 +32,7 @@ pub returns : goal.returns
 unfolding front recipients front_in optional_addresses_in
 returns c =
     let x = front_in c.args.x.now in
-    let addressees = shape-writes _ _ _ _ _ _ x.recipients _ _ _ _ c.write_optional_part-at.ensures in
     let others = shape-writes _ _ _ _ _ _ x.information _ _ _ _ c.write_optional_part.ensures in
     let informed = information-writes (room_behind x.recipients) (omega arith) x.information (front-information x c.requires.1) _ _ _ _ others in
-    search (then-writes, shape-writes) depth 12
+    let addressees = shape-writes _ _ _ _ _ _ x.recipients _ _ _ _ c.write_optional_part-at.ensures in
+    shape-writes _ _ _ _ _ _ x _ _ _ _ (then-writes _ _ _ _ _ _ _ _ _ c.write_origin-at.ensures (then-writes _ _ _ _ _ _ _ _ _ addressees informed))
