@@ -5,14 +5,14 @@ ghost use Rattle.codec.specs.Codec.{flag, ◌&◌, ◌closed_by◌};
 ghost use Rattle.header.specs.Table.{format, handling, times, optional_response, optional_references, block, blocks};
 ghost use Rattle.record_octets.specs.Record.{size_of_block, block_in, size_of_blocks, blocks_in, blocks_of, size_of_blocks_list};
 
-use crate::references::write_optional_references;
 use bits::BitPlace;
 use cells::{entry, load_word};
 use flag::write_flag;
-use record_octets::{in_block, in_blocks};
+use header::{References, Response};
+use record_octets::{in_block, in_blocks, in_optional_references, in_optional_response};
 use write_group::format::write_format;
 use write_group::handling::write_handling;
-use write_group::response::write_optional_response;
+use write_group::part::write_optional_part;
 use write_group::times::write_times;
 
 // A block up to the end of G7.
@@ -30,8 +30,18 @@ fn write_tail(out: &mut [u8], at: BitPlace, x: &[u8]) -> BitPlace
     requires { Room out.old at.0 ((optional_response & (optional_references closed_by 7)).size ((block_in x.now).response, (block_in x.now).references)) × (optional_references.check (block_in x.now).references ≡ 0) × (length x.now ≡ size_of_block) }
     ensures { Writes (optional_response & (optional_references closed_by 7)) ((block_in x.now).response, (block_in x.now).references) out.old out.new at.0 result.0 }
 {
-    let at = write_optional_response(out, at, &x[in_block::RESPONSE..in_block::REFERENCES]);
-    let at = write_optional_references(out, at, &x[in_block::REFERENCES..in_block::END]);
+    let at = write_optional_part::<Response>(
+        out,
+        at,
+        in_optional_response::RESPONSE,
+        &x[in_block::RESPONSE..in_block::REFERENCES],
+    );
+    let at = write_optional_part::<References>(
+        out,
+        at,
+        in_optional_references::REFERENCES,
+        &x[in_block::REFERENCES..in_block::END],
+    );
     write_flag(out, at, false)
 }
 

@@ -2,4 +2,3 @@
 #![tactic(auto)]
 
 pub mod block;
-pub mod references;

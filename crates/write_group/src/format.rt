@@ -1,54 +1,35 @@
 // A block's user message format, standard version, G4 and file name.
 ghost use Rattle.codec.specs.Writes.{Room, Writes};
-ghost use Rattle.header.specs.Table.{identity, optional_identity, standard_version, format};
-ghost use Rattle.record_octets.specs.Record.{size_of_optional_number, optional_number_in, size_of_identity, identity_in, size_of_optional_identity, optional_identity_in, size_of_format, format_in};
+ghost use Rattle.header.specs.Table.{standard_version, format};
+ghost use Rattle.record_octets.specs.Record.{size_of_optional_number, optional_number_in, size_of_format, format_in};
 ghost use Rattle.std.specs.Prelude.{length, ◌≡◌};
 
+use crate::part::{Write, write_optional_part};
 use crate::texts::write_optional_text;
 use bits::BitPlace;
-use cells::load_flag;
+use header::Identity;
 use header::editions::lacks_standard_version;
 use header::layout::{FAD, FILE, MESSAGE_NUMBER, MESSAGE_SUBTYPE, STANDARD_VERSION, UMF};
-use leaves::numbers::{write_mark, write_optional, write_word};
+use leaves::numbers::{write_optional, write_word};
 use record_octets::{in_format, in_identity, in_optional_identity};
 
 // G4.
-pub fn write_identity(out: &mut [u8], at: BitPlace, x: &[u8]) -> BitPlace
-    requires { Room out.old at.0 (identity.size (identity_in x.now)) × (length x.now ≡ size_of_identity) }
-    ensures { Writes identity (identity_in x.now) out.old out.new at.0 result.0 }
-{
-    let at = write_word(out, at, FAD, &x[in_identity::FAD..in_identity::NUMBER]);
-    let at = write_word(
-        out,
-        at,
-        MESSAGE_NUMBER,
-        &x[in_identity::NUMBER..in_identity::SUBTYPE],
-    );
-    write_optional(
-        out,
-        at,
-        MESSAGE_SUBTYPE,
-        &x[in_identity::SUBTYPE..in_identity::END],
-    )
-}
-
-pub fn write_optional_identity(out: &mut [u8], at: BitPlace, x: &[u8]) -> BitPlace
-    requires { Room out.old at.0 (optional_identity.size (optional_identity_in x.now)) × (length x.now ≡ size_of_optional_identity) }
-    ensures { Writes optional_identity (optional_identity_in x.now) out.old out.new at.0 result.0 }
-{
-    let next = write_mark(
-        out,
-        at,
-        &x[in_optional_identity::PRESENT..in_optional_identity::IDENTITY],
-    );
-    if load_flag(&x[in_optional_identity::PRESENT..in_optional_identity::IDENTITY]) {
-        return write_identity(
+impl Write for Identity {
+    fn write(out: &mut [u8], at: BitPlace, x: &[u8]) -> BitPlace {
+        let at = write_word(out, at, FAD, &x[in_identity::FAD..in_identity::NUMBER]);
+        let at = write_word(
             out,
-            next,
-            &x[in_optional_identity::IDENTITY..in_optional_identity::END],
+            at,
+            MESSAGE_NUMBER,
+            &x[in_identity::NUMBER..in_identity::SUBTYPE],
         );
+        write_optional(
+            out,
+            at,
+            MESSAGE_SUBTYPE,
+            &x[in_identity::SUBTYPE..in_identity::END],
+        )
     }
-    next
 }
 
 // The message standard version, where the version has it.
@@ -73,6 +54,11 @@ pub fn write_format(out: &mut [u8], at: BitPlace, version: u32, x: &[u8]) -> Bit
         version,
         &x[in_format::VERSION..in_format::IDENTITY],
     );
-    let at = write_optional_identity(out, at, &x[in_format::IDENTITY..in_format::FILE]);
+    let at = write_optional_part::<Identity>(
+        out,
+        at,
+        in_optional_identity::IDENTITY,
+        &x[in_format::IDENTITY..in_format::FILE],
+    );
     write_optional_text(out, at, FILE, &x[in_format::FILE..in_format::END])
 }

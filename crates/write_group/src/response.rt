@@ -1,16 +1,16 @@
 // A block's G8: the answer to a message.
 ghost use Rattle.codec.specs.Writes.{Room, Writes};
-ghost use Rattle.header.specs.Table.{compliance, response, optional_response};
-ghost use Rattle.record_octets.specs.Record.{size_of_compliance, compliance_in, size_of_response, response_in, size_of_optional_response, optional_response_in};
+ghost use Rattle.header.specs.Table.{compliance};
+ghost use Rattle.record_octets.specs.Record.{size_of_compliance, compliance_in};
 ghost use Rattle.std.specs.Prelude.{length, ◌≡◌};
 
-use crate::dtg::write_stamp;
+use crate::part::Write;
 use crate::texts::write_optional_text;
 use bits::BitPlace;
-use cells::load_flag;
 use header::layout::{AMPLIFICATION, CANTCO, CANTPRO, COMPLIANCE};
-use leaves::numbers::{write_mark, write_optional, write_word};
-use record_octets::{in_compliance, in_optional_response, in_response};
+use header::{Response, Stamp};
+use leaves::numbers::{write_optional, write_word};
+use record_octets::{in_compliance, in_response};
 
 pub fn write_compliance(out: &mut [u8], at: BitPlace, x: &[u8]) -> BitPlace
     requires { Room out.old at.0 (compliance.size (compliance_in x.now)) × (length x.now ≡ size_of_compliance) }
@@ -36,39 +36,19 @@ pub fn write_compliance(out: &mut [u8], at: BitPlace, x: &[u8]) -> BitPlace
     )
 }
 
-pub fn write_response(out: &mut [u8], at: BitPlace, x: &[u8]) -> BitPlace
-    requires { Room out.old at.0 (response.size (response_in x.now)) × (length x.now ≡ size_of_response) }
-    ensures { Writes response (response_in x.now) out.old out.new at.0 result.0 }
-{
-    let at = write_stamp(out, at, &x[in_response::STAMP..in_response::COMPLIANCE]);
-    let at = write_compliance(
-        out,
-        at,
-        &x[in_response::COMPLIANCE..in_response::AMPLIFICATION],
-    );
-    write_optional_text(
-        out,
-        at,
-        AMPLIFICATION,
-        &x[in_response::AMPLIFICATION..in_response::END],
-    )
-}
-
-pub fn write_optional_response(out: &mut [u8], at: BitPlace, x: &[u8]) -> BitPlace
-    requires { Room out.old at.0 (optional_response.size (optional_response_in x.now)) × (length x.now ≡ size_of_optional_response) }
-    ensures { Writes optional_response (optional_response_in x.now) out.old out.new at.0 result.0 }
-{
-    let next = write_mark(
-        out,
-        at,
-        &x[in_optional_response::PRESENT..in_optional_response::RESPONSE],
-    );
-    if load_flag(&x[in_optional_response::PRESENT..in_optional_response::RESPONSE]) {
-        return write_response(
+impl Write for Response {
+    fn write(out: &mut [u8], at: BitPlace, x: &[u8]) -> BitPlace {
+        let at = Stamp::write(out, at, &x[in_response::STAMP..in_response::COMPLIANCE]);
+        let at = write_compliance(
             out,
-            next,
-            &x[in_optional_response::RESPONSE..in_optional_response::END],
+            at,
+            &x[in_response::COMPLIANCE..in_response::AMPLIFICATION],
         );
+        write_optional_text(
+            out,
+            at,
+            AMPLIFICATION,
+            &x[in_response::AMPLIFICATION..in_response::END],
+        )
     }
-    next
 }
