@@ -64,6 +64,7 @@ fn write_entry(out: &mut [u8], at: BitPlace, version: u32, more: bool, x: &[u8])
 }
 
 // The entries of a legal list: every one but the last has the recurrence bit 1.
+// Not by part::write_entries: how a block is laid out hangs on the record's version, which is known only as it runs.
 fn write_entries(out: &mut [u8], at: BitPlace, version: u32, list: &[u8], held: u32) -> BitPlace
     requires { Room out.old at.0 ((blocks version).size (blocks_of list.now held)) × ((blocks version).check (blocks_of list.now held) ≡ 0) × (length list.now ≡ size_of_blocks_list) }
     ensures { Writes (blocks version) (blocks_of list.now held) out.old out.new at.0 result.0 }

@@ -10,6 +10,7 @@ use leaves::numbers::write_mark;
 use leaves::texts::write_text;
 use record_octets::in_optional_text;
 
+// Not by part::write_optional_part: how a text is laid out hangs on how long it may be, which is no property of its type.
 pub fn write_optional_text(out: &mut [u8], at: BitPlace, most: usize, x: &[u8]) -> BitPlace
     requires { Room out.old at.0 ((optional_text most).size (optional_text_in x.now)) × (most ≤ 64) × (length x.now ≡ size_of_optional_text) }
     ensures { Writes (optional_text most) (optional_text_in x.now) out.old out.new at.0 result.0 }
