@@ -3,11 +3,11 @@ ghost use Rattle.std.specs.Prelude.{◌≡◌, ◌+◌, ◌*◌, ◌<◌, ◌≤
 ghost use Rattle.cells.specs.Cells.{many};
 ghost use Rattle.codec.specs.Codec.{optional};
 ghost use Rattle.codec.specs.Refusals.{check_no};
-ghost use Rattle.parts.specs.Parts.{behind_flag, counted};
+ghost use Rattle.record_parts.specs.Parts.{behind_flag, counted};
 
 use cells::{entry, load_flag};
 use codec::Fault;
-use parts::{Entry, Part};
+use record_parts::{Entry, Part};
 
 pub trait Check: Part {
     fn check(x: &[u8]) -> Result<(), Fault>

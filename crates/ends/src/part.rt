@@ -3,12 +3,12 @@ ghost use Rattle.std.specs.Prelude.{◌≡◌, ◌+◌, ◌*◌, ◌≤◌, suc,
 ghost use Rattle.cells.specs.Cells.{many};
 ghost use Rattle.codec.specs.Codec.{optional};
 ghost use Rattle.codec.specs.Writes.{Placed};
-ghost use Rattle.parts.specs.Parts.{behind_flag, counted};
+ghost use Rattle.record_parts.specs.Parts.{behind_flag, counted};
 
 use bits::BitPlace;
 use cells::{entry, load_flag};
 use flag::end_flag;
-use parts::{Entry, Part};
+use record_parts::{Entry, Part};
 
 pub trait End: Part {
     // What is asked of a value whose end is to be found.

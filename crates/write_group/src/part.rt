@@ -3,13 +3,13 @@ ghost use Rattle.std.specs.Prelude.{◌≡◌, ◌+◌, ◌*◌, ◌≤◌, suc,
 ghost use Rattle.cells.specs.Cells.{many};
 ghost use Rattle.codec.specs.Codec.{optional, flag, ◌&◌};
 ghost use Rattle.codec.specs.Writes.{Room, Writes};
-ghost use Rattle.parts.specs.Parts.{behind_flag, counted};
+ghost use Rattle.record_parts.specs.Parts.{behind_flag, counted};
 
 use bits::BitPlace;
 use cells::{entry, load_flag};
 use flag::write_flag;
 use leaves::numbers::write_mark;
-use parts::{Entry, Part};
+use record_parts::{Entry, Part};
 
 pub trait Write: Part {
     // What is asked of a value that is to be written.
