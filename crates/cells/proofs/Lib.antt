@@ -5,4 +5,5 @@ pub mod Lists
 pub mod Sets
 pub mod Moved
 pub mod Inserted
+mod Shift
 pub mod Copying

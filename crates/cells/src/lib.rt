@@ -87,18 +87,23 @@ pub fn move_down(t: &mut [u8], from: usize, to: usize, by: usize)
     t.copy_within(from + by..to + by, from);
 }
 
-// The octets from a place up to another go so many further on, the last one first.
+// The octets from a place up to another go so many further on, the last one first: octet by octet, since of the library's copies
+// of any length the compiler makes calls of `memmove`, which a host's program need not have.
 pub fn move_up(t: &mut [u8], from: usize, to: usize, by: usize)
     requires { (from ≤ to) × (to + by ≤ length t.old) }
     ensures { t.new ≡ paste t.old (from + by) (drop from t.old) (to - from) }
 {
-    t.copy_within(from..to, from + by);
+    for k in (from..to).rev() {
+        t[k + by] = t[k];
+    }
 }
 
-// So many octets of another slice, put in from a place on.
+// So many octets of another slice, put in from a place on: octet by octet, for the same reason.
 pub fn copy(t: &mut [u8], to: usize, s: &[u8], from: usize, n: usize)
     requires { (to + n ≤ length t.old) × (from + n ≤ length s.now) }
     ensures { t.new ≡ paste t.old to (drop from s.now) n }
 {
-    t[to..to + n].copy_from_slice(&s[from..from + n]);
+    for i in 0..n {
+        t[to + i] = s[from + i];
+    }
 }

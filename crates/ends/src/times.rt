@@ -12,12 +12,19 @@ use record_octets::{
     in_optional_dtg, in_optional_requests, in_optional_stamp, in_requests, in_times,
 };
 
-// Their bits do not depend on their values.
+// G7: its bits do not depend on their values.
+pub fn end_requests(at: BitPlace) -> BitPlace
+    requires { Placed at.0 3 }
+    ensures { result.0 ≡ at.0 + 3 }
+{
+    let at = end_flag(at);
+    let at = end_flag(at);
+    end_flag(at)
+}
+
 impl End for Requests {
     fn end(at: BitPlace, _x: &[u8]) -> BitPlace {
-        let at = end_flag(at);
-        let at = end_flag(at);
-        end_flag(at)
+        end_requests(at)
     }
 }
 

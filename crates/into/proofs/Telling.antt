@@ -33,6 +33,15 @@ module _ (bs : List Bool) (p : ℕ) where
     pub tells-reading-then : (st : Step) (x : A) (y : B) (q : BitPlace) → answer_of (Ok (x, q)) ≡ c.read bs p → Tells (d x) bs q.0 st y → Tells (c then_by d) bs p st (x, y)
     tells-reading-then st x y q e h = tells-then x y q.0 st (reading-got bs p c x q e) h
 
+  -- behind a number, and behind a flag
+  module _ {B : Type 0} (c : Codec ℕ) (d : ℕ → Codec B) where
+    pub tells-number-then : (st : Step) (x : ℕ) (y : B) (q : BitPlace) → answer_of (Ok (x, q)) ≡ c.read bs p → Tells (d x) bs q.0 st y → Tells (c then_by d) bs p st (x, y)
+    tells-number-then = tells-reading-then c d
+
+  module _ {B : Type 0} (c : Codec Bool) (d : Bool → Codec B) where
+    pub tells-flag-then : (st : Step) (x : Bool) (y : B) (q : BitPlace) → answer_of (Ok (x, q)) ≡ c.read bs p → Tells (d x) bs q.0 st y → Tells (c then_by d) bs p st (x, y)
+    tells-flag-then = tells-reading-then c d
+
   module _ {A B : Type 0} (to : A → B) (from : B → A) (clean : B → B) (fine : B → Bool) (fault : ℕ) (c : Codec A) where
     pub tells-shape : (st : Step) (y : B) → Tells c bs p st (from y) → to (from y) ≡ y → Tells (viewed to from clean fine fault c) bs p st y
     unfolding next viewed answer

@@ -21,10 +21,15 @@ fn fill(out: &mut [u8]) {
     }
 }
 
-// Whether every octet from the n-th on is as `fill` left it.
+// Whether every octet from the n-th on is as `fill` left it. By places: this is most of the program's time, and `skip` and `all` take
+// twice as long over it.
 fn kept(out: &[u8], n: usize) -> bool {
-    let mut octets = out.iter().enumerate().skip(n);
-    octets.all(|(i, octet)| *octet == pattern(i))
+    for i in n..out.len() {
+        if out[i] != pattern(i) {
+            return false;
+        }
+    }
+    true
 }
 
 fn print_kept(rt: &impl Print, out: &[u8], n: usize) -> io::Result<()> {

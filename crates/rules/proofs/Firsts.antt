@@ -23,6 +23,10 @@ told_none [] k n h = refl
 told_none (m ∷ ms) zero n h = absurd (omega arith)
 told_none (m ∷ ms) (suc k) n h = told_none ms k n (omega arith)
 
+-- behind a number that is not the one: the numbers of a `match` are passed one by one
+pub past : (k n : ℕ) → n ≤ k → (k ≡ n → ⊥) → suc n ≤ k
+past k n h e = omega arith
+
 module _ {A : Type 0} where
   -- what is told behind the blocks, of which the first is the i-th, where rank k and block n were found before them
   unfoldable pub passed : List (Rule A) → ℕ → List A → ℕ → ℕ → Verdict

@@ -6,11 +6,13 @@ use mathlib.Core.List.{List}
 use lib.ListN.{length, get_or}
 use lib.Dec.{lit≤}
 use native.Mathlib.Omega.{arith}
-use Rattle.codec.specs.Codec.{viewed}
+use Rattle.codec.specs.Codec.{first, viewed}
 use Rattle.codec.specs.Lists.{listed, cells}
-use Rattle.codec.specs.Refusals.{check_no, finding_says}
+use Rattle.codec.specs.Refusals.{check_no, fault_no, finding_says}
 use Rattle.codec.specs.declared.BlockFault.{BlockFault}
-use Rattle.std.specs.Prelude.{Result, Ok, ⊤}
+use Rattle.codec.specs.declared.Fault.{Fault}
+use Rattle.codec.proofs.Told.{fault-positive, first-refusal}
+use Rattle.std.specs.Prelude.{Result, Ok, Err, ⊤}
 use Rattle.codec.proofs.ListChecks.{Checking, checking-none, checking-more, checking-all}
 use Rattle.codec.proofs.ListEnds.{Ending, ending-none, ending-more, ending-all}
 use Rattle.header.specs.Sizes.{judgement}
@@ -28,6 +30,11 @@ use Rattle.rules.proofs.Looks.{Looked, looked-none, looked-more, looked-all}
 pub fine-check : {A : Type 0} (x : A) (n : ℕ) → check_no (Ok x) ≡ n → n ≡ 0
 unfolding check_no
 fine-check x n e = sym e
+
+-- a field's fault is the first of all, whatever comes behind it
+pub first-faulty : (A B : Type 0) (e : Fault) (f g : ℕ) → check_no {A = A} (Err e) ≡ f → check_no {A = B} (Err e) ≡ first f g
+unfolding check_no
+first-faulty A B e f g h = rw (← h) (first-refusal (fault_no e) g (fault-positive e))
 
 -- the blocks before i are legal; what they show of the rules and the sizes, and where they end
 pub record Surveyed (version : ℕ) (x : Setting) (alone octets at n : ℕ) (l : List Block) (seen : Seen) (end i : ℕ) : Type 0 where

@@ -40,6 +40,19 @@ sought-requires c = (c.requires.0, key-112 (goal.at.sought-requires c).Start, c.
 pub returns-in_err-place : goal.returns-in_err-place
 returns-in_err-place c = rw (handed _ c.in_err-place.field-0.0 c.from_residual.ensures.1) (early c.args.t.now c.requires.0 _ (answer_says c.args.said) _ c.in_err-place.ensures.0 c.in_err-place.ensures.1, c.in_err-place.ensures.2)
 
+pub returns : goal.returns
+unfolding answer_says answer_place
+returns c =
+    let to = addresses_in c.args.to.now in
+    let n = (table_in c.args.t.now).count in
+    let f = answer_says c.args.said in
+    let row = row_octets (row_image (key_of (key_in c.args.key.now), make (ask_of c.args.asked) (map address_of (take to.count to.list)))) in
+    let e : c.put_row.new.t ≡ counted (n + 1) (inserted_at 1592 n c.in-Err.at row c.args.t.now) = c.put_row.ensures.0 ∙ ap (λ (m : ℕ). counted (m + 1) (inserted_at 1592 m c.in-Err.at row c.args.t.now)) c.row_count-count.ensures in (
+      subst (λ (u : List ℕ). Transition (named f (post (key_of (key_in c.args.key.now)) (make (ask_of c.args.asked) (map address_of (take to.count to.list))))) c.args.t.now fine u) (sym e)
+          (post-changed c.args.t.now c.requires.0 (key_in c.args.key.now) (Err c.in-Err.at) (λ w. rw c.in-Err.is at c.in_ok-place.ensures.2) c.args.asked to f c.requires.5 fine (told-done _ _ c.in_ok-place.ensures.0 c.in_ok-place.ensures.1 _ (lt-leb 32 _ (omega (arith, c.if-count-ge32.false, c.row_count-count.ensures)))) refl (clean (goal.at.returns c).Start) c.put_row.ensures.1),
+      refl,
+    )
+
 pub returns-in_default : goal.returns-in_default
 unfolding pending_no
 returns-in_default c =
@@ -57,16 +70,3 @@ put_row-requires c =
     let e = c.row_count-count.ensures in
     let q = post-there c.args.t.now c.requires.0 (key_in c.args.key.now) (Err c.in-Err.at) (λ w. rw c.in-Err.is at c.in_ok-place.ensures.2) c.args.asked (addresses_in c.args.to.now) (answer_says c.args.said) c.requires.5 fine (told-done _ _ c.in_ok-place.ensures.0 c.in_ok-place.ensures.1 _ (lt-leb 32 _ (omega (arith, c.if-count-ge32.false, e)))) refl in
     (c.requires.0, omega (arith, q.1, e), omega (arith, q.2, e), c.requires.1, c.requires.2, c.requires.3, q.0)
-
-pub returns : goal.returns
-unfolding answer_says answer_place
-returns c =
-    let to = addresses_in c.args.to.now in
-    let n = (table_in c.args.t.now).count in
-    let f = answer_says c.args.said in
-    let row = row_octets (row_image (key_of (key_in c.args.key.now), make (ask_of c.args.asked) (map address_of (take to.count to.list)))) in
-    let e : c.put_row.new.t ≡ counted (n + 1) (inserted_at 1592 n c.in-Err.at row c.args.t.now) = c.put_row.ensures.0 ∙ ap (λ (m : ℕ). counted (m + 1) (inserted_at 1592 m c.in-Err.at row c.args.t.now)) c.row_count-count.ensures in (
-      subst (λ (u : List ℕ). Transition (named f (post (key_of (key_in c.args.key.now)) (make (ask_of c.args.asked) (map address_of (take to.count to.list))))) c.args.t.now fine u) (sym e)
-          (post-changed c.args.t.now c.requires.0 (key_in c.args.key.now) (Err c.in-Err.at) (λ w. rw c.in-Err.is at c.in_ok-place.ensures.2) c.args.asked to f c.requires.5 fine (told-done _ _ c.in_ok-place.ensures.0 c.in_ok-place.ensures.1 _ (lt-leb 32 _ (omega (arith, c.if-count-ge32.false, c.row_count-count.ensures)))) refl (clean (goal.at.returns c).Start) c.put_row.ensures.1),
-      refl,
-    )

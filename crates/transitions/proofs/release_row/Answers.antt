@@ -22,17 +22,17 @@ use Rattle.transitions.proofs.release_row.Goals as goal
 pub returns-in_err-place : goal.returns-in_err-place
 returns-in_err-place c = rw (handed _ c.in_err-place.field-0.0 c.from_residual.ensures.1) (early c.args.t.now c.requires.0 _ (answer_says c.args.said) _ c.in_err-place.ensures.0 c.in_err-place.ensures.1, c.in_err-place.ensures.2)
 
-pub returns-in_default : goal.returns-in_default
-unfolding pending_no
-returns-in_default c =
-    let e = c.refusal.ensures.0 in
-    (release-refused c.args.t.now c.requires.0 (key_in c.args.key.now) (Err c.in_default.field-0) (λ w. rw c.in_default.is at c.in_ok-place.ensures.2) (answer_says c.args.said) _ (e ∙ told _ _ c.in_ok-place.ensures.0 c.in_ok-place.ensures.1 26) (ap (λ (v : Verdict). eqb v.number 0) e), c.refusal.ensures.1)
-
 pub remove_row-requires : goal.remove_row-requires
 remove_row-requires c =
     let q = release-there c.args.t.now c.requires.0 (key_in c.args.key.now) (Ok c.in-Ok.row) (λ w. rw c.in-Ok.is at c.in_ok-place.ensures.2) (answer_says c.args.said) fine (told _ _ c.in_ok-place.ensures.0 c.in_ok-place.ensures.1 0) refl in
     let e = c.row_count-count.ensures in
     (c.requires.0, omega (arith, q.0, e), omega (arith, q.1, e))
+
+pub returns-in_default : goal.returns-in_default
+unfolding pending_no
+returns-in_default c =
+    let e = c.refusal.ensures.0 in
+    (release-refused c.args.t.now c.requires.0 (key_in c.args.key.now) (Err c.in_default.field-0) (λ w. rw c.in_default.is at c.in_ok-place.ensures.2) (answer_says c.args.said) _ (e ∙ told _ _ c.in_ok-place.ensures.0 c.in_ok-place.ensures.1 26) (ap (λ (v : Verdict). eqb v.number 0) e), c.refusal.ensures.1)
 
 pub returns : goal.returns
 unfolding answer_says answer_place

@@ -3,24 +3,16 @@ use borrow.Author.Rules.{rules}
 use Prim.Native.Nat.{ℕ, ◌+◌}
 use mathlib.Core.Path.{◌≡◌, ap, sym, ◌∙◌}
 use Rattle.codec.specs.Codec.{first}
-use Rattle.codec.specs.Refusals.{check_no, fault_no, finding_says}
-use Rattle.codec.specs.declared.Fault.{Fault}
+use Rattle.codec.specs.Refusals.{finding_says}
 use Rattle.codec.proofs.Compose.{handed}
-use Rattle.codec.proofs.Told.{fault-positive, first-refusal}
 use Rattle.header.specs.Table.{front, blocks}
 use Rattle.record_octets.specs.Record.{header_in}
-use Rattle.std.specs.Prelude.{Err}
 use Rattle.std.proofs.lemmas.Result.{IfOk-weaker}
 use Rattle.survey.specs.declared.Survey.{Survey}
 use Rattle.writer.specs.Writing.{record_verdict, fields_end}
 use Rattle.writer.proofs.Parts.{check-by, size-by}
-use Rattle.survey.proofs.Surveys.{fine-check}
+use Rattle.survey.proofs.Surveys.{fine-check, first-faulty}
 use Rattle.writer.proofs.survey_record.Goals as goal
-
--- a field's fault is the first of all, whatever comes behind it
-first-faulty : (A B : Type 0) (e : Fault) (f g : ℕ) → check_no {A = A} (Err e) ≡ f → check_no {A = B} (Err e) ≡ first f g
-unfolding check_no
-first-faulty A B e f g h = rw (← h) (first-refusal (fault_no e) g (fault-positive e))
 
 pub returns-in_err-check_front : goal.returns-in_err-check_front
 unfolding header_in

@@ -4,17 +4,9 @@ use Rattle.codec.specs.Codec.{◌then_by◌, viewed, flag}
 use Rattle.header.specs.Table.{requests}
 use Rattle.ends.proofs.times.RequestsEnd.end.Goals as goal
 
-pub end_flag-at-requires : goal.end_flag-at-requires
+pub end_requests-requires : goal.end_requests-requires
 unfolding requests ◌then_by◌ viewed flag
-end_flag-at-requires c = search rules
-
-pub end_flag-at-requires-2 : goal.end_flag-at-requires-2
-unfolding requests ◌then_by◌ viewed flag
-end_flag-at-requires-2 c = search rules
-
-pub end_flag-requires : goal.end_flag-requires
-unfolding requests ◌then_by◌ viewed flag
-end_flag-requires c = search rules
+end_requests-requires c = search rules
 
 pub returns : goal.returns
 unfolding requests ◌then_by◌ viewed flag
