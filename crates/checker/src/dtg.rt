@@ -46,8 +46,9 @@ pub fn check_time(x: &[u8]) -> Result<(), Fault>
 
 impl Check for Dtg {
     fn check(x: &[u8]) -> Result<(), Fault> {
-        check_date(&x[in_dtg::DATE..in_dtg::TIME])?;
-        check_time(&x[in_dtg::TIME..in_dtg::END])
+        let date = check_date(&x[in_dtg::DATE..in_dtg::TIME]);
+        let time = check_time(&x[in_dtg::TIME..in_dtg::END]);
+        date.and(time)
     }
 }
 

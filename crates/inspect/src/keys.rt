@@ -18,8 +18,9 @@ pub fn check_key(k: &[u8]) -> Result<(), Fault>
     requires { length k.now ≡ size_of_key }
     ensures { check_no result ≡ key_fault (key_in k.now) }
 {
-    check_address(&k[in_key::ADDRESS..in_key::STAMP])?;
-    check_stamp(&k[in_key::STAMP..in_key::END])
+    let address = check_address(&k[in_key::ADDRESS..in_key::STAMP]);
+    let stamp = check_stamp(&k[in_key::STAMP..in_key::END]);
+    address.and(stamp)
 }
 
 // Stamps are 32 octets, and are loaded.

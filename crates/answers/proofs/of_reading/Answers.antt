@@ -1,5 +1,5 @@
 -- `answers::of_reading` meets its contract. Assumes nothing.
-use mathlib.Core.Path.{◌≡◌, refl, ◌∙◌}
+use mathlib.Core.Path.{◌≡◌, refl}
 use Rattle.bits.specs.declared.OctetSize.{OctetSize}
 use Rattle.codec.specs.declared.Fault.{Fault}
 use Rattle.codec.specs.declared.Refusal.{Refusal}
@@ -16,4 +16,4 @@ alike (Ok n) = refl
 alike (Err e) = refl
 
 pub returns : goal.returns
-returns c = c.of_writing.ensures ∙ alike c.args.answer
+returns c = cc (alike c.args.answer)

@@ -5,7 +5,7 @@ use Rattle.answers.proofs.of_writing.Goals as goal
 
 pub returns-in-Ok : goal.returns-in-Ok
 unfolding told write_numbers
-returns-in-Ok c = rw c.in-Ok.is c.size.ensures
+returns-in-Ok c = cc
 
 pub returns-in-Err : goal.returns-in-Err
 unfolding told write_numbers

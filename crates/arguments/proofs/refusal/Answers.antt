@@ -3,4 +3,4 @@ use Rattle.arguments.proofs.Told.{plain-says}
 use Rattle.arguments.proofs.refusal.Goals as goal
 
 pub returns : goal.returns
-returns c = plain-says _ _ c.from.ensures
+returns c = plain-says _ _ (cc c.from.ensures.0, cc c.from.ensures.1, cc c.from.ensures.2)

@@ -31,17 +31,17 @@ loop-i-init c = surveyed-none _ _ _ _ _ _ _ c.requires.0 (many-count block_in 85
 pub entry-b-requires : goal.entry-b-requires
 entry-b-requires c = omega (arith, c.requires.1)
 
+pub look-found-requires : goal.look-found-requires
+look-found-requires c =
+    let e = fine-check _ _ c.in_ok-check_block.ensures in
+    (surveyed-room _ _ _ _ _ _ _ c.requires.0 (many-count block_in 852 16 _) (omega arith) _ _ _ c.loop-i.invariant _ (omega arith) e, e, c.entry-b.ensures.1)
+
 pub returns-in_err-check_block : goal.returns-in_err-check_block
 unfolding blocks viewed
 returns-in_err-check_block c =
     let g = many-entry block_in 852 16 c.loop-i.i c.args.list.now _ no_block c.entry-b.ensures.0 (omega arith) in
     rw (handed _ c.in_err-check_block.field-0.0 c.from_residual.ensures.1)
     (record { fields = checking-bad _ _ _ _ _ _ (many-count block_in 852 16 _) _ c.loop-i.invariant.fields no_block (omega arith) (omega arith) _ (c.in_err-check_block.ensures ∙ ap (block c.args.version).check g) _ _ refl; found = tt })
-
-pub look-found-requires : goal.look-found-requires
-look-found-requires c =
-    let e = fine-check _ _ c.in_ok-check_block.ensures in
-    (surveyed-room _ _ _ _ _ _ _ c.requires.0 (many-count block_in 852 16 _) (omega arith) _ _ _ c.loop-i.invariant _ (omega arith) e, e, c.entry-b.ensures.1)
 
 pub loop-i-preserved : goal.loop-i-preserved
 loop-i-preserved c =

@@ -14,15 +14,15 @@ use Rattle.writer.proofs.Parts.{check-by, size-by}
 use Rattle.survey.proofs.Surveys.{fine-check, first-faulty}
 use Rattle.writer.proofs.survey_record.Goals as goal
 
+pub blocks_place-at-requires : goal.blocks_place-at-requires
+unfolding header_in
+blocks_place-at-requires c = (fine-check _ _ c.in_ok-check_front.ensures, c.requires)
+
 pub returns-in_err-check_front : goal.returns-in_err-check_front
 unfolding header_in
 returns-in_err-check_front c =
     rw (handed _ c.in_err-check_front.field-0.0 c.from_residual.ensures.1)
     (record { fields = first-faulty _ _ _ _ _ c.in_err-check_front.ensures; found = tt })
-
-pub blocks_place-at-requires : goal.blocks_place-at-requires
-unfolding header_in
-blocks_place-at-requires c = (fine-check _ _ c.in_ok-check_front.ensures, c.requires)
 
 pub survey_blocks-requires : goal.survey_blocks-requires
 survey_blocks-requires c = (c.blocks_place-at.ensures.1, search rules)
